@@ -1,11 +1,9 @@
 -- A cited list has numbers of entries, and positions of keys.
-use Rattle.std.proofs.Common.{◌==◌, ◌≡◌, ℕ, zero, suc, ◌+◌, ◌<◌, not, List, [], ◌∷◌, length, map, filter, filter_map, Option, None, Some, is_none, All, refl, sym, subst, ⊎_elim, arith}
-use Rattle.std.specs.List.{range_with_len, enumerate_from, cons_option}
+use Rattle.bib_answers.proofs.Words.{◌==◌, ◌≡◌, ℕ, zero, suc, ◌+◌, ◌<◌, not, List, [], ◌∷◌, length, map, filter, Option, None, Some, All, refl, sym, subst, ⊎_elim, range_with_len, cons_option, cases_Bool, cond-true, cond-false, Text, EntryTexts, entry_named, named_within}
+use Rattle.std.proofs.Common.{filter_map, is_none, arith}
+use Rattle.std.specs.List.{enumerate_from}
 use Rattle.std.proofs.lemmas.List.Elements.{All-nil, All-cons, All-head, All-tail, All-append, All-filter, All-map}
-use Rattle.std.proofs.lemmas.Bool.{cases_Bool, cond-true, cond-false}
-use Rattle.bib_spec.specs.Text.{Text}
-use Rattle.bib_spec.specs.Records.{EntryTexts, entry_named, numbers_of, once, cited_by_key, with_parents, cites_all, listed, unknown}
-use Rattle.bib_spec.proofs.Parents.{named_within}
+use Rattle.bib_spec.specs.Records.{numbers_of, once, cited_by_key, with_parents, cites_all, listed, unknown}
 
 -- ---- entries
 

@@ -1,16 +1,9 @@
 -- How many entries there are, and the key of each.
-use Rattle.std.proofs.Common.{⊎_elim, ◌≡◌, ℕ, ◌<◌, List, [], ◌∷◌, length, map, Option, Some, slice_get, option_map, refl, sym, ap, ◌∙◌, arith}
-use Rattle.std.specs.Option.{option_map_or}
-use Rattle.std.proofs.lemmas.List.{length-map}
-use Rattle.std.proofs.lemmas.Option.{slice_get-map, slice_get_cases, same_Some}
-use Rattle.bib_spec.specs.Text.{Text}
-use Rattle.bib_spec.specs.Tree.{Tree, CommentTree, DefinitionTree, PreambleTree, EntryTree}
-use Rattle.bib_spec.specs.Reading.{Item, Reading}
-use Rattle.bib_spec.specs.Texts.{Macros, months, macros_after, gathered}
-use Rattle.bib_spec.specs.Records.{EntryTexts, entry_in, entries_of, keys_of}
-use Rattle.bib_scan.specs.View.{View, view_of, key_of}
-use Rattle.bib_store.specs.Meaning.{entry_items}
-use Rattle.bib_answers.specs.Entries.{key_at}
+use Rattle.bib_answers.proofs.Words.{⊎_elim, ◌≡◌, ℕ, ◌<◌, List, [], ◌∷◌, length, map, Option, Some, slice_get, option_map, refl, sym, ap, ◌∙◌, option_map_or, length-map, slice_get-map, slice_get_cases, same_Some, Text, Tree, CommentTree, DefinitionTree, PreambleTree, EntryTree, Item, Reading}
+use Rattle.bib_answers.proofs.Words.{Macros, months, EntryTexts, entries_of, keys_of, View, view_of, key_of, entry_items, key_at}
+use Rattle.std.proofs.Common.{arith}
+use Rattle.bib_spec.specs.Texts.{macros_after, gathered}
+use Rattle.bib_spec.specs.Records.{entry_in}
 
 -- ---- keys
 

@@ -1,23 +1,14 @@
 -- How findings are added: of a value use by use, of an item field by field, and of a file item by item.
-use Rattle.std.proofs.Common.{◌≡◌, ◌∙◌, ℕ, ◌+◌, ◌<◌, List, [], ◌∷◌, ◌++◌, length, map, take, Option, Some, slice_get, get_or, zip, refl, sym, ap, ap₂, arith, append-nil, append_assoc}
-use Rattle.std.specs.List.{flat_map}
-use Rattle.std.proofs.lemmas.Option.{slice_get_within, get_or_from_slice_get}
-use Rattle.std.proofs.lemmas.List.{length-map}
-use Rattle.std.proofs.lemmas.Slice.Zip.{get_or-zip, length-zip}
+use Rattle.bib_answers.proofs.Words.{◌≡◌, ◌∙◌, ℕ, ◌+◌, ◌<◌, List, [], ◌∷◌, ◌++◌, length, map, take, Option, Some, slice_get, get_or, zip, refl, sym, ap, ap₂, append-nil, append_assoc, flat_map, slice_get_within, get_or_from_slice_get, length-map, get_or-zip, length-zip, take-length, Text, Part}
+use Rattle.bib_answers.proofs.Words.{Macros, Field, OfValue, Assigned, AreFieldsOf, AreSound, Finding, value_findings, field_findings, Written, with_findings}
+use Rattle.std.proofs.Common.{arith}
 use Rattle.std.proofs.lemmas.Grind.{flat_map-append}
-use Rattle.std.proofs.Math.Seq.{take-length}
-use Rattle.bib_spec.specs.Text.{Text}
-use Rattle.bib_spec.specs.Tree.{Part, Value, Link}
-use Rattle.bib_spec.specs.Texts.{Macros, parts_of}
-use Rattle.bib_scan.specs.View.{Field}
+use Rattle.bib_spec.specs.Tree.{Value, Link}
+use Rattle.bib_spec.specs.Texts.{parts_of}
 use Rattle.bib_scan.specs.ValueParts.{IsPartsOf, spans_of, span_start}
 use Rattle.bib_scan.specs.declared.parts.PartSpan.{PartSpan}
 use Rattle.bib_scan.proofs.TakenApart.{one_value, length-spans_of}
-use Rattle.bib_value.specs.Raw.{OfValue}
-use Rattle.bib_answers.specs.Check.{Assigned}
-use Rattle.bib_answers.specs.Fields.{AreFieldsOf, AreSound}
-use Rattle.bib_answers.specs.Lint.{Finding, finding_line, placed_parts, value_findings, name_findings, field_findings}
-use Rattle.bib_answers.specs.FindingLines.{Written, with_findings}
+use Rattle.bib_answers.specs.Lint.{finding_line, placed_parts, name_findings}
 use Rattle.bib_answers.proofs.LineLists.{lines_more}
 
 -- no findings add nothing

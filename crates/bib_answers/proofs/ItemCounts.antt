@@ -1,14 +1,10 @@
 -- How many of the items so far pass a test.
-use Rattle.std.proofs.Common.{◌≡◌, ◌∙◌, ℕ, zero, suc, ◌+◌, ◌<◌, ◌≤◌, Bool, true, false, cond, List, [], ◌∷◌, length, take, drop, filter, Some, slice_get, count_by, sym, ap, ⊎_elim, arith, length-append}
-use Rattle.std.proofs.lemmas.Option.{slice_get_cases, same_Some, none-some}
-use Rattle.std.proofs.lemmas.List.{take_all, take-append-drop}
+use Rattle.bib_answers.proofs.Words.{◌≡◌, ◌∙◌, ℕ, zero, suc, ◌+◌, ◌<◌, ◌≤◌, Bool, true, false, cond, List, [], ◌∷◌, length, take, drop, filter, Some, slice_get, sym, ap, ⊎_elim, slice_get_cases, same_Some, take_all, take-append-drop, Item, Reading, entries_of, is_entry_tree, entries_before}
+use Rattle.std.proofs.Common.{count_by, arith, length-append}
+use Rattle.std.proofs.lemmas.Option.{none-some}
 use Rattle.std.proofs.lemmas.List.Sums.{length-filter}
 use Rattle.std.proofs.lemmas.List.Filters.{length-filter_more}
 use Rattle.std.proofs.lemmas.List.Elements.{filter-append}
-use Rattle.bib_spec.specs.Reading.{Item, Reading}
-use Rattle.bib_spec.specs.Records.{entries_of}
-use Rattle.bib_store.specs.Meaning.{is_entry_tree}
-use Rattle.bib_answers.specs.Check.{entries_before}
 use Rattle.bib_answers.proofs.EntryNumbers.{count_of_entries}
 
 -- what is said of item n

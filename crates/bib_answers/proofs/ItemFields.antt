@@ -1,21 +1,18 @@
 -- The fields that a view tells of an item.
-use Rattle.std.proofs.Common.{⊎_elim, option_and_then, ◌≡◌, ◌∙◌, ℕ, suc, ◌<◌, ◌≤◌, Bool, true, false, List, [], ◌∷◌, ◌++◌, length, map, Some, All, slice_get, refl, sym, ap, subst, arith, append-nil, append_assoc}
-use Rattle.std.proofs.lemmas.Bool.{false≢true}
-use Rattle.std.proofs.lemmas.Option.{slice_get_within, slice_get_cases}
+use Rattle.bib_answers.proofs.Words.{⊎_elim, ◌≡◌, ◌∙◌, ℕ, suc, ◌<◌, ◌≤◌, Bool, true, false, List, [], ◌∷◌, ◌++◌, length, map, Some, All, slice_get, refl, sym, ap, subst, append-nil, append_assoc, false≢true, slice_get_within, slice_get_cases, Text, Tree, CommentTree, DefinitionTree, PreambleTree}
+use Rattle.bib_answers.proofs.Words.{EntryTree, Item, Reading, months, macros_at, entries_of, is_repeated, View, Field, view_of, fields_of, kind_of, key_of, is_entry_tree, entry_items, Assigned, assigned, defined_in, field_reports, reports_on, entries_before, AreFieldsOf, AreSound}
+use Rattle.std.proofs.Common.{option_and_then, arith}
 use Rattle.bib_spec.specs.Bytes.{name_limit}
-use Rattle.bib_spec.specs.Text.{Text}
-use Rattle.bib_spec.specs.Tree.{Tree, CommentTree, DefinitionTree, PreambleTree, EntryTree, Row, Assignment, IsTree, IsRow, IsAssignment, value_bytes, row_bytes}
-use Rattle.bib_spec.specs.Reading.{Item, Reading, Reads, IsItem}
-use Rattle.bib_spec.specs.Texts.{months, macros_at}
-use Rattle.bib_spec.specs.Records.{texts_of, entries_of, crossref_text, target, is_repeated}
-use Rattle.bib_scan.specs.View.{View, Field, view_of, fields_of, fields_after, kind_of, key_of}
+use Rattle.bib_spec.specs.Tree.{Row, Assignment, IsTree, IsRow, IsAssignment, value_bytes, row_bytes}
+use Rattle.bib_spec.specs.Reading.{Reads, IsItem}
+use Rattle.bib_spec.specs.Records.{texts_of, crossref_text, target}
+use Rattle.bib_scan.specs.View.{fields_after}
 use Rattle.bib_scan.specs.declared.view.Kind.{Kind}
-use Rattle.bib_store.specs.Meaning.{is_entry_tree, entry_items}
 use Rattle.folded_map.proofs.Entries.{name_short}
-use Rattle.bib_answers.specs.Check.{Assigned, row_assigned, assigned, defined_in, field_reports, of_entry, repeated_report, crossref_report, item_reports, reports_on, entries_before}
+use Rattle.bib_answers.specs.Check.{row_assigned, of_entry, repeated_report, crossref_report, item_reports}
 use Rattle.bib_answers.proofs.ItemCounts.{number_within, among_passing}
 use Rattle.bib_store.proofs.EntryItems.{entry_of_item, key_seen}
-use Rattle.bib_answers.specs.Fields.{Views, IsKeyOf, IsFieldOf, AreFieldsOf, AreSound}
+use Rattle.bib_answers.specs.Fields.{Views, IsKeyOf, IsFieldOf}
 
 field_of_assignment : (a : Assignment) (field : Field) → IsAssignment name_limit a → field.name ≡ a.name → field.value ≡ value_bytes a.value
     → IsFieldOf (a.name, a.value) field

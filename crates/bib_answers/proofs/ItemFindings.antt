@@ -1,18 +1,11 @@
 -- The findings in an item, by its view.
-use Rattle.std.proofs.Common.{◌≡◌, ◌∙◌, ℕ, Bool, true, false, List, [], ◌++◌, refl, sym, ap}
-use Rattle.std.proofs.lemmas.Bool.{false≢true}
+use Rattle.bib_answers.proofs.Words.{◌≡◌, ◌∙◌, ℕ, Bool, true, false, List, [], ◌++◌, refl, sym, ap, false≢true, Text, Tree, CommentTree, DefinitionTree, PreambleTree, EntryTree, Reading, Macros, months, macros_at, entries_of, is_repeated, View, fields_of, kind_of, key_of, is_entry_tree, assigned}
+use Rattle.bib_answers.proofs.Words.{defined_in, entries_before, Finding, field_findings, crossrefs_of, Written, with_findings}
 use Rattle.std.proofs.Math.Path.{fun_ext}
-use Rattle.bib_spec.specs.Text.{Text}
-use Rattle.bib_spec.specs.Tree.{Tree, CommentTree, DefinitionTree, PreambleTree, EntryTree}
-use Rattle.bib_spec.specs.Reading.{Reading}
-use Rattle.bib_spec.specs.Texts.{Macros, months, macros_at}
-use Rattle.bib_spec.specs.Records.{entries_of, is_repeated}
-use Rattle.bib_scan.specs.View.{View, fields_of, kind_of, key_of, key_place}
-use Rattle.bib_store.specs.Meaning.{is_entry_tree}
-use Rattle.bib_answers.specs.Check.{assigned, defined_in, entries_before}
-use Rattle.bib_answers.specs.Lint.{Finding, key_findings, field_findings, crossrefs_of, for_entry, item_findings, findings_on}
+use Rattle.bib_scan.specs.View.{key_place}
+use Rattle.bib_answers.specs.Lint.{key_findings, for_entry, item_findings, findings_on}
 use Rattle.bib_scan.specs.Layout.{start_of}
-use Rattle.bib_answers.specs.FindingLines.{Written, at_item, with_findings}
+use Rattle.bib_answers.specs.FindingLines.{at_item}
 use Rattle.bib_answers.proofs.ItemFields.{IsViewed}
 use Rattle.bib_answers.proofs.FindingSteps.{findings_append}
 

@@ -1,17 +1,11 @@
 -- The lines of entries as JSON, one after another.
-use Rattle.std.proofs.Common.{◌≡◌, ◌∙◌, ℕ, ◌+◌, ◌<◌, Bool, true, false, not, List, [], ◌∷◌, ◌++◌, length, take, drop, get_or, find, if◌then◌else◌, option_map, Option, None, Some, sym, ap}
-use Rattle.std.specs.List.{flat_map, cons_option}
-use Rattle.std.specs.Option.{option_map_or, option_or}
-use Rattle.std.proofs.lemmas.List.{take_more, take-append-drop, flat_map_more}
-use Rattle.std.proofs.lemmas.List.Elements.{filter_map-append}
+use Rattle.bib_answers.proofs.Words.{◌≡◌, ◌∙◌, ℕ, ◌+◌, ◌<◌, Bool, true, false, not, List, [], ◌∷◌, ◌++◌, length, take, drop, get_or, option_map, Option, None, Some, sym, ap, flat_map, cons_option, option_map_or, take_more, take-append-drop, flat_map_more, filter_map-append, Text, EntryTexts}
+use Rattle.bib_answers.proofs.Words.{record_of, parent, next-of, is_told_utf8, key_at, not_utf8_line, answer_of}
+use Rattle.std.proofs.Common.{find, if◌then◌else◌}
+use Rattle.std.specs.Option.{option_or}
 use Rattle.std.proofs.lemmas.List.Folds.{find-append}
-use Rattle.bib_spec.specs.Text.{Text}
-use Rattle.bib_spec.specs.Records.{EntryTexts, record_of, parent}
-use Rattle.bib_keys.proofs.Walks.{next-of}
-use Rattle.entry_json.specs.EntryJson.{Told, json_line, is_told_utf8}
-use Rattle.bib_answers.specs.Entries.{key_at}
-use Rattle.bib_answers.specs.Json.{told_at, told_of, not_utf8_line, told_answer}
-use Rattle.bib_answers.specs.Outcome.{answer_of}
+use Rattle.entry_json.specs.EntryJson.{Told, json_line}
+use Rattle.bib_answers.specs.Json.{told_at, told_of, told_answer}
 
 abbrev pub is_unsaid : Told → Bool
 is_unsaid one = not (is_told_utf8 one)

@@ -1,15 +1,10 @@
 -- Labels beside their keys, one after another.
-use Rattle.std.proofs.Common.{◌≡◌, ◌∙◌, ℕ, ◌+◌, ◌≤◌, ◌<◌, List, [], ◌∷◌, ◌++◌, length, take, get_or, map, zip, min, slice_get, Option, Some, option_map, refl, sym, ap, ap₂, arith}
-use Rattle.std.specs.List.{flat_map, cons_option}
-use Rattle.std.specs.Option.{option_map_or}
-use Rattle.std.proofs.lemmas.List.{take_all, map-append}
-use Rattle.std.proofs.lemmas.List.Elements.{filter_map-append}
-use Rattle.std.proofs.lemmas.Slice.Zip.{get_or-zip, length-zip}
-use Rattle.bib_spec.specs.Text.{Text}
-use Rattle.bib_spec.specs.Records.{EntryTexts, Record, record_of, expanded}
-use Rattle.bib_names.specs.Label.{label_base, labels_of}
-use Rattle.bib_answers.specs.Labels.{label_line, labelled, keyed_line, records_at, AreLabelRows}
-use Rattle.bib_answers.specs.Entries.{key_at}
+use Rattle.bib_answers.proofs.Words.{◌≡◌, ◌∙◌, ℕ, ◌+◌, ◌≤◌, ◌<◌, List, [], ◌∷◌, ◌++◌, length, take, get_or, map, zip, min, slice_get, Option, Some, option_map, refl, sym, ap, ap₂, flat_map, cons_option, option_map_or, take_all, filter_map-append, get_or-zip, length-zip, Text, EntryTexts, Record}
+use Rattle.bib_answers.proofs.Words.{record_of, expanded, labels_of, keyed_line, records_at, AreLabelRows, key_at}
+use Rattle.std.proofs.Common.{arith}
+use Rattle.std.proofs.lemmas.List.{map-append}
+use Rattle.bib_names.specs.Label.{label_base}
+use Rattle.bib_answers.specs.Labels.{label_line, labelled}
 use Rattle.bib_answers.proofs.LineLists.{lines_more}
 
 -- one more label and key

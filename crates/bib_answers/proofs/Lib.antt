@@ -1,4 +1,5 @@
 -- ---- why a file is not read
+pub mod Words
 pub mod Refusals
 -- ---- what the commands find in a file
 pub mod ItemCounts

@@ -1,7 +1,8 @@
 -- The names of lists, their lines, and why they are refused.
-use Rattle.std.proofs.Common.{◌≡◌, ◌≢◌, ◌∙◌, ℕ, ◌+◌, ◌<◌, ◌≤◌, Bool, true, false, cond, List, ◌++◌, length, drop, get_or, Option, None, Some, Result, Ok, Err, IfOk, IfErr, OnOk, refl, sym, ap, append_assoc}
+use Rattle.bib_answers.proofs.Words.{◌≡◌, ◌≢◌, ◌∙◌, ℕ, ◌+◌, ◌<◌, ◌≤◌, Bool, true, false, cond, List, ◌++◌, length, drop, get_or, Option, None, Some, Ok, refl, sym, ap, append_assoc, Text, before_lines, name_lines}
+use Rattle.std.proofs.Common.{Result, Err, IfOk, IfErr, OnOk}
 use Rattle.std.proofs.lemmas.List.{drop_more}
-use Rattle.bib_spec.specs.Text.{Text, IsBalanced}
+use Rattle.bib_spec.specs.Text.{IsBalanced}
 use Rattle.bib_names.specs.NameList.{names_of}
 use Rattle.bib_names.specs.Name.{commas, without_end, parts_of}
 use Rattle.bib_names.specs.Template.{Pattern}
@@ -11,7 +12,7 @@ use Rattle.bib_names.specs.declared.fault.NameFault.{NameFault}
 use Rattle.bib_names.specs.declared.fault.NameFault.TheVariants.{Memory, TooManyCommas, UnbalancedName}
 use Rattle.bib_names.proofs.BalanceLaws.{balances-yes, balances-no, IsBalanced-from_test}
 use Rattle.bib_names.proofs.CommaLemmas.{few_commas, many_commas}
-use Rattle.bib_answers.specs.Names.{listed_in, given_parts, parts_in, name_line, before_lines, joined_lines, name_lines}
+use Rattle.bib_answers.specs.Names.{listed_in, given_parts, parts_in, name_line, joined_lines}
 
 -- ---- lists of names
 

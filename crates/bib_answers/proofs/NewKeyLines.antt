@@ -1,14 +1,7 @@
 -- New keys beside the old ones, one after another.
-use Rattle.std.proofs.Common.{◌≡◌, ◌∙◌, ℕ, ◌+◌, ◌≤◌, ◌<◌, List, [], ◌++◌, length, take, get_or, zip, min, slice_get, Option, Some, option_map, sym, ap, arith}
-use Rattle.std.specs.List.{flat_map}
-use Rattle.std.specs.Option.{option_map_or}
-use Rattle.std.proofs.lemmas.List.{length-map}
-use Rattle.std.proofs.lemmas.Option.{slice_get-map, get_or_from_slice_get}
-use Rattle.bib_spec.specs.Text.{Text}
-use Rattle.bib_spec.specs.Records.{EntryTexts, keys_of}
-use Rattle.bib_keys.proofs.Walks.{next-of}
-use Rattle.bib_answers.specs.Entries.{key_at}
-use Rattle.bib_answers.specs.NewKeys.{new_key_line, new_key_lines}
+use Rattle.bib_answers.proofs.Words.{◌≡◌, ◌∙◌, ℕ, ◌+◌, ◌≤◌, ◌<◌, List, [], ◌++◌, length, take, get_or, zip, min, slice_get, Option, Some, option_map, sym, ap, flat_map, option_map_or, length-map, slice_get-map, get_or_from_slice_get, Text, EntryTexts, keys_of, next-of, key_at, new_key_line}
+use Rattle.std.proofs.Common.{arith}
+use Rattle.bib_answers.specs.NewKeys.{new_key_lines}
 use Rattle.bib_answers.proofs.LabelLines.{label_more, labels_all}
 
 abbrev key_in : EntryTexts → Text

@@ -1,15 +1,13 @@
 -- Positions, from one place to a later one.
-use Rattle.std.proofs.Common.{⊎_elim, ◌≡◌, ◌∙◌, ℕ, zero, suc, ◌+◌, ◌-◌, ◌≤◌, ◌<◌, ◌^◌, ◌==◌, false, [], ◌∷◌, length, take, drop, get_or, fold, min, count_by, add-one, sym, ap, subst, arith, le_refl}
-use Rattle.std.proofs.lemmas.Bool.{cases_Bool, cond-true, cond-false}
-use Rattle.std.proofs.lemmas.List.{length-take, take_all, take_min, take_more, length-drop}
+use Rattle.bib_answers.proofs.Words.{⊎_elim, ◌≡◌, ◌∙◌, ℕ, zero, suc, ◌+◌, ◌-◌, ◌≤◌, ◌<◌, ◌^◌, ◌==◌, false, [], ◌∷◌, length, take, drop, get_or, fold, min, sym, ap, subst, cases_Bool, cond-true, cond-false, take_all, take_more, Text, Position, position, position_after, is_line_feed, IsKnown}
+use Rattle.std.proofs.Common.{count_by, add-one, arith, le_refl}
+use Rattle.std.proofs.lemmas.List.{length-take, take_min, length-drop}
 use Rattle.std.proofs.lemmas.List.Sums.{fold-append, count_by_more_yes, count_by_more_no}
 use Rattle.std.proofs.Math.Seq.{take-add}
 use Rattle.memchr.specs.Find.{Passes, Nowhere, NoneAfter}
 use Rattle.bib_spec.specs.Bytes.{line_feed}
-use Rattle.bib_spec.specs.Text.{Text}
-use Rattle.bib_answers.specs.declared.positions.Position.{Position}
 use Rattle.bib_answers.specs.declared.positions.Known.{Known}
-use Rattle.bib_answers.specs.Positions.{position, position_after, position_of, is_line_feed, IsKnown}
+use Rattle.bib_answers.specs.Positions.{position_of}
 
 -- after `count` bytes neither number is larger by more than `count`
 abbrev IsNear : Position → ℕ → Position → Type 0

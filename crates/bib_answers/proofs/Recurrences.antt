@@ -1,13 +1,11 @@
 -- Which names an item may have twice.
-use Rattle.std.proofs.Common.{◌≡◌, ◌∙◌, ◌==◌, ◌||◌, ℕ, suc, ◌+◌, ◌%◌, ◌<◌, ◌≤◌, Bool, true, false, cond, List, [], ◌∷◌, length, get_or, set, Option, None, Some, refl, zero-add, sym, ap, subst, ⊎_elim, arith}
-use Rattle.std.specs.List.{list_any}
+use Rattle.bib_answers.proofs.Words.{◌≡◌, ◌∙◌, ◌==◌, ℕ, suc, ◌+◌, ◌<◌, ◌≤◌, Bool, true, false, cond, List, [], ◌∷◌, length, get_or, Option, None, Some, refl, sym, ap, subst, ⊎_elim, list_any, cases_Bool, Text, folded, same, hash_from, AreTold, NameFilter}
+use Rattle.std.proofs.Common.{◌||◌, ◌%◌, set, zero-add, arith}
 use Rattle.std.proofs.Math.Nat.{mod-lt}
-use Rattle.std.proofs.lemmas.Bool.{cases_Bool, eq-eqb, eqb-true, both_ways}
+use Rattle.std.proofs.lemmas.Bool.{eq-eqb, eqb-true, both_ways}
 use Rattle.std.proofs.lemmas.List.{get_or-set_same, get_or-set_other, length-set}
-use Rattle.bib_spec.specs.Text.{Text, folded, same}
 use Rattle.bib_spec.proofs.Names.{same-true}
-use Rattle.bib_answers.specs.Recurring.{hash_from, bucket_of, one_more, with_one_more, is_shared, AreTold, unrolled}
-use Rattle.bib_answers.specs.declared.name_filter.NameFilter.{NameFilter}
+use Rattle.bib_answers.specs.Recurring.{bucket_of, one_more, with_one_more, is_shared, unrolled}
 
 -- how many of the names fall into bucket m of n
 abbrev pub tally : ℕ → ℕ → List Text → ℕ

@@ -1,13 +1,9 @@
 -- Answers to a file that is open, and answers that say why a file is not read.
-use Rattle.std.proofs.Common.{◌≡◌, ◌≢◌, ℕ, [], subst, sym}
-use Rattle.bib_spec.specs.Text.{Text}
-use Rattle.bib_spec.specs.Reading.{Reading}
-use Rattle.bib_spec.specs.Fault.{IsReadFault}
+use Rattle.bib_answers.proofs.Words.{◌≡◌, ◌≢◌, ℕ, [], subst, sym, Text, Reading, IsReadFault, OfReading, answer_of}
 use Rattle.bib_spec.specs.Texts.{IsOpenable}
-use Rattle.bib_store.specs.Meaning.{IsOpenFault, OfReading}
+use Rattle.bib_store.specs.Readings.{IsOpenFault}
 use Rattle.bib_answers.specs.declared.answers.Answer.{Answer}
 use Rattle.bib_answers.specs.Messages.{refusal_line}
-use Rattle.bib_answers.specs.Outcome.{answer_of}
 use Rattle.bib_answers.specs.Opened as opening
 use Rattle.bib_answers.specs.Opened.{AnswersFile}
 use Rattle.bib_answers.specs.Cat as cat

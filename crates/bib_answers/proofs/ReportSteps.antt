@@ -1,17 +1,8 @@
 -- How reports are added: of a value use by use, of an item field by field, and of a file item by item.
-use Rattle.std.proofs.Common.{◌≡◌, ◌∙◌, ℕ, ◌+◌, List, [], ◌∷◌, ◌++◌, length, take, Option, Some, slice_get, refl, sym, ap, subst, append-nil, append_assoc}
-use Rattle.std.specs.List.{flat_map, range_with_len}
-use Rattle.std.proofs.lemmas.Option.{slice_get_within, get_or_from_slice_get}
-use Rattle.std.proofs.lemmas.List.{flat_map_more}
-use Rattle.std.proofs.Math.Seq.{take-length}
-use Rattle.bib_spec.specs.Text.{Text, same}
-use Rattle.bib_spec.specs.Tree.{Part}
-use Rattle.bib_spec.specs.Texts.{Macros, parts_of}
-use Rattle.bib_scan.specs.View.{Field}
-use Rattle.bib_value.specs.Raw.{OfValue}
+use Rattle.bib_answers.proofs.Words.{◌≡◌, ◌∙◌, ℕ, ◌+◌, List, [], ◌∷◌, ◌++◌, length, take, Option, Some, slice_get, refl, sym, ap, subst, append-nil, append_assoc, flat_map, range_with_len, slice_get_within, get_or_from_slice_get, flat_map_more, take-length, Text, same, Part, Macros, Field, OfValue}
+use Rattle.bib_answers.proofs.Words.{Assigned, use_reports, extra_report, field_reports, AreFieldsOf, AreSound}
+use Rattle.bib_spec.specs.Texts.{parts_of}
 use Rattle.bib_store.proofs.Citations.{range_more}
-use Rattle.bib_answers.specs.Check.{Assigned, use_reports, extra_report, field_reports}
-use Rattle.bib_answers.specs.Fields.{AreFieldsOf, AreSound}
 use Rattle.bib_answers.proofs.LineLists.{lines_more}
 
 -- ---- uses

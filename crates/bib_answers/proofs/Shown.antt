@@ -1,12 +1,9 @@
 -- An entry as `show` writes it.
-use Rattle.std.proofs.Common.{◌≡◌, ℕ, List, ◌++◌, Option, Some, None, refl, sym, subst}
-use Rattle.std.specs.Option.{IfSome}
-use Rattle.bib_spec.specs.Text.{Text}
-use Rattle.bib_spec.specs.Records.{EntryTexts, Record, crossref, entries_of, parent, expanded}
+use Rattle.bib_answers.proofs.Words.{◌≡◌, ℕ, List, ◌++◌, Option, Some, None, refl, sym, subst, IfSome, Text, EntryTexts, Record, entries_of, parent, expanded, OfReading, key_at, shown_field}
+use Rattle.bib_spec.specs.Records.{crossref}
 use Rattle.bib_spec.proofs.Parents.{parent_within}
-use Rattle.bib_store.specs.Meaning.{OfReading, IsEntryNumber}
-use Rattle.bib_answers.specs.Entries.{key_at}
-use Rattle.bib_answers.specs.Show.{record_lines, shown_field, parent_line, shown}
+use Rattle.bib_store.specs.Readings.{IsEntryNumber}
+use Rattle.bib_answers.specs.Show.{record_lines, parent_line, shown}
 
 -- a parent is an entry
 pub parent_number : (file : Text) (n : ℕ) (p : Option ℕ) → OfReading file (λ r. p ≡ parent (entries_of r) n) → IfSome p (IsEntryNumber file)

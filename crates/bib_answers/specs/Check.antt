@@ -12,7 +12,7 @@ use Rattle.bib_scan.specs.View.{kind_of, key_of}
 use Rattle.bib_scan.specs.declared.view.Kind.{Kind}
 use Rattle.bib_scan.specs.declared.view.Kind.TheVariants as kind
 use Rattle.bib_value.specs.Macros.{is_own}
-use Rattle.bib_store.specs.Meaning.{entry_items}
+use Rattle.bib_store.specs.Readings.{entry_items}
 use Rattle.bib_definitions.specs.Definitions.{is_definition_tree}
 use Rattle.bib_answers.specs.declared.answers.Answer.{Answer}
 use Rattle.bib_answers.specs.Outcome.{answer_of}

@@ -5,7 +5,7 @@ use Rattle.std.specs.Option.{option_map_or}
 use Rattle.bib_spec.specs.Text.{Text}
 use Rattle.bib_spec.specs.Reading.{Reading}
 use Rattle.bib_spec.specs.Records.{EntryTexts, entries_of, parent, listed, unknown}
-use Rattle.bib_store.specs.Meaning.{OfReading}
+use Rattle.bib_store.specs.Readings.{OfReading}
 use Rattle.bib_answers.specs.declared.answers.Answer.{Answer}
 use Rattle.bib_answers.specs.declared.listing.Keyed.{Keyed}
 use Rattle.bib_answers.specs.declared.listing.Line.{Line}

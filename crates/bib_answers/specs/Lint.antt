@@ -14,7 +14,7 @@ use Rattle.bib_scan.specs.View.{Field, fields_of, kind_of, key_of, key_place}
 use Rattle.bib_scan.specs.declared.view.Kind.{Kind}
 use Rattle.bib_scan.specs.declared.view.Kind.TheVariants as kind
 use Rattle.bib_value.specs.Macros.{is_own}
-use Rattle.bib_store.specs.Meaning.{IsOpenFault}
+use Rattle.bib_store.specs.Readings.{IsOpenFault}
 use Rattle.bib_answers.specs.declared.answers.Answer.{Answer}
 use Rattle.bib_answers.specs.declared.positions.Position.{Position}
 use Rattle.bib_answers.specs.Check.{Assigned, assigned, defined_in, entries_before}

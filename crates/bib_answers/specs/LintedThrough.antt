@@ -2,7 +2,7 @@
 use Rattle.std.specs.Prelude.{ℕ, ◌≡◌, ◌≤◌}
 use Rattle.std.specs.List.{flat_map, range_with_len}
 use Rattle.bib_spec.specs.Text.{Text}
-use Rattle.bib_store.specs.Meaning.{OfReading}
+use Rattle.bib_store.specs.Readings.{OfReading}
 use Rattle.bib_answers.specs.Check.{entries_before}
 use Rattle.bib_answers.specs.Lint.{item_lines}
 use Rattle.bib_answers.specs.declared.lint.Found.{Found}

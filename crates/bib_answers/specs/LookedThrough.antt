@@ -3,7 +3,7 @@ use Rattle.std.specs.Prelude.{ℕ, ◌≡◌, ◌≤◌, take, count_by}
 use Rattle.std.specs.List.{flat_map, range_with_len}
 use Rattle.bib_spec.specs.Text.{Text}
 use Rattle.bib_spec.specs.Tree.{is_comment}
-use Rattle.bib_store.specs.Meaning.{OfReading}
+use Rattle.bib_store.specs.Readings.{OfReading}
 use Rattle.bib_definitions.specs.Definitions.{is_definition_tree}
 use Rattle.bib_answers.specs.Check.{entries_before, reports_on}
 use Rattle.bib_answers.specs.declared.check.Found.{Found}

@@ -3,7 +3,7 @@ use Rattle.std.specs.Prelude.{ℕ, ◌≡◌, ◌<◌, ◌==◌, Bool, false, Li
 use Rattle.std.specs.List.{list_any}
 use Rattle.bib_spec.specs.Text.{Text}
 use Rattle.bib_spec.specs.Records.{entries_of}
-use Rattle.bib_store.specs.Meaning.{OfReading}
+use Rattle.bib_store.specs.Readings.{OfReading}
 
 -- the mark of each number below the count says whether it is in the list
 pub record AreMarks (count : ℕ) (list : List ℕ) (marks : List Bool) : Type 0 where

@@ -5,7 +5,7 @@ use Rattle.std.specs.Fn.{Once, FnOnceReturns}
 use Rattle.bib_spec.specs.Text.{Text}
 use Rattle.bib_spec.specs.Reading.{Reading}
 use Rattle.bib_spec.specs.Texts.{Opens}
-use Rattle.bib_store.specs.Meaning.{IsOpenFault, OfReading}
+use Rattle.bib_store.specs.Readings.{IsOpenFault, OfReading}
 use Rattle.bib_answers.specs.declared.answers.Answer.{Answer}
 use Rattle.bib_answers.specs.Messages.{refusal_line}
 use Rattle.bib_answers.specs.Outcome.{answer_of}

@@ -2,7 +2,7 @@
 
 ghost use Rattle.std.specs.Prelude.{◌≡◌, IfOk, IfSome};
 ghost use Rattle.bib_spec.specs.Records.{entries_of};
-ghost use Rattle.bib_store.specs.Meaning.{OfReading};
+ghost use Rattle.bib_store.specs.Readings.{OfReading};
 ghost use Rattle.bib_answers.specs.Cited.{all_cited};
 ghost use Rattle.bib_answers.specs.Marks.{AreEntryNumbers};
 

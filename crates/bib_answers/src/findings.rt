@@ -11,7 +11,7 @@ ghost use Rattle.bib_scan.specs.PartView.{part_view};
 ghost use Rattle.bib_scan.specs.ValueParts.{IsPartsOf};
 ghost use Rattle.bib_scan.specs.View.{field_seen};
 ghost use Rattle.bib_value.specs.Raw.{OfValue};
-ghost use Rattle.bib_store.specs.Meaning.{OfReading, IsItemNumber, IsEntryNumber};
+ghost use Rattle.bib_store.specs.Readings.{OfReading, IsItemNumber, IsEntryNumber};
 ghost use Rattle.bib_answers.specs.Check.{Assigned, defined_in, entries_before};
 ghost use Rattle.bib_answers.specs.Fields.{Views, AreFieldsOf, AreSound};
 ghost use Rattle.bib_answers.specs.Lint.{use_findings, value_findings, name_findings, field_findings, grandparent, order_findings, nested_findings, target_findings, crossref_findings, crossrefs_of, repeated_findings, unusual_findings, key_findings, findings_on};

@@ -3,7 +3,7 @@
 ghost use Rattle.std.specs.Prelude.{◌≡◌, ◌≢◌, ◌++◌, [], true, false, Some, IfSome, IfOk, IfErr, option_map};
 ghost use Rattle.std.specs.Option.{option_copied};
 ghost use Rattle.bib_spec.specs.Records.{entries_of, IsDepth};
-ghost use Rattle.bib_store.specs.Meaning.{OfReading, IsEntryNumber};
+ghost use Rattle.bib_store.specs.Readings.{OfReading, IsEntryNumber};
 ghost use Rattle.entry_json.specs.EntryJson.{Told, json_line, is_told_utf8};
 ghost use Rattle.entry_json.specs.declared.fault.JsonFault.TheVariants.{Memory};
 ghost use Rattle.bib_answers.specs.Entries.{key_at};

@@ -6,7 +6,7 @@ ghost use Rattle.bib_answers.specs.LintedThrough.{IsLintedBefore};
 ghost use Rattle.bib_answers.specs.Outcome.{answer_of};
 ghost use Rattle.bib_answers.specs.Positions.{position_of};
 ghost use Rattle.bib_answers.specs.Lint.{error_line};
-ghost use Rattle.bib_store.specs.Meaning.{OfReading, IsItemNumber};
+ghost use Rattle.bib_store.specs.Readings.{OfReading, IsItemNumber};
 
 use crate::answers::{Answer, outcome_of};
 use crate::check::counted;

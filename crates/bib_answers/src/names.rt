@@ -3,7 +3,7 @@
 ghost use Rattle.std.specs.Prelude.{◌≡◌, ◌≢◌, ◌++◌, [], Ok, Err, map, IfOk, IfErr, OnOk, codes};
 ghost use Rattle.std.specs.Option.{option_map_or};
 ghost use Rattle.bib_spec.specs.Records.{entries_of, expanded, IsDepth};
-ghost use Rattle.bib_store.specs.Meaning.{OfReading, IsEntryNumber};
+ghost use Rattle.bib_store.specs.Readings.{OfReading, IsEntryNumber};
 ghost use Rattle.bib_names.specs.declared.fault.NameFault.TheVariants.{Memory};
 ghost use Rattle.bib_answers.specs.Messages.{no_such_entry_line};
 ghost use Rattle.bib_answers.specs.Outcome.{answer_of};

@@ -2,7 +2,7 @@
 
 ghost use Rattle.std.specs.Prelude.{◌≡◌, ◌++◌, codes, IfOk, OnOk};
 ghost use Rattle.bib_spec.specs.Records.{entries_of, keys_of, IsDepth};
-ghost use Rattle.bib_store.specs.Meaning.{OfReading};
+ghost use Rattle.bib_store.specs.Readings.{OfReading};
 ghost use Rattle.bib_answers.specs.Opened.{AnswersFile};
 ghost use Rattle.bib_answers.specs.NewKeys.{new_key_lines, newkeys_answer};
 

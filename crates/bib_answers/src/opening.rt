@@ -3,7 +3,7 @@
 ghost use Rattle.std.specs.Prelude.{◌≡◌, IfOk, IfErr, OnOk};
 ghost use Rattle.bib_spec.specs.Reading.{Reading};
 ghost use Rattle.bib_spec.specs.Texts.{IsOpenable};
-ghost use Rattle.bib_store.specs.Meaning.{IsOpenFault};
+ghost use Rattle.bib_store.specs.Readings.{IsOpenFault};
 ghost use Rattle.bib_answers.specs.declared.answers.Answer.{Answer};
 ghost use Rattle.bib_answers.specs.Opened.{AnswersFile, AnswersReading};
 

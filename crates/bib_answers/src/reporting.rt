@@ -10,7 +10,7 @@ ghost use Rattle.bib_scan.specs.PartView.{part_view};
 ghost use Rattle.bib_scan.specs.ValueParts.{IsPartsOf};
 ghost use Rattle.bib_value.specs.Macros.{is_own};
 ghost use Rattle.bib_value.specs.Raw.{OfValue};
-ghost use Rattle.bib_store.specs.Meaning.{OfReading, IsItemNumber};
+ghost use Rattle.bib_store.specs.Readings.{OfReading, IsItemNumber};
 ghost use Rattle.bib_answers.specs.Check.{Assigned, report, report_both, use_report, use_reports, defined_in, extra_report, field_reports, of_entry, repeated_report, target_report, crossref_report, entries_before, reports_on};
 ghost use Rattle.bib_answers.specs.Fields.{Views, IsKeyOf, AreFieldsOf, AreSound};
 ghost use Rattle.bib_answers.specs.Recurring.{AreTold};

@@ -3,7 +3,7 @@
 ghost use Rattle.std.specs.Prelude.{◌≡◌, ◌++◌, [], IfOk, IfSome, OnOk};
 ghost use Rattle.std.specs.List.{flat_map};
 ghost use Rattle.bib_spec.specs.Records.{entries_of, IsDepth};
-ghost use Rattle.bib_store.specs.Meaning.{OfReading, IsEntryNumber};
+ghost use Rattle.bib_store.specs.Readings.{OfReading, IsEntryNumber};
 ghost use Rattle.bib_answers.specs.Opened.{AnswersFile};
 ghost use Rattle.bib_answers.specs.Show.{head_line, shown_field, record_lines, parent_line, shown, show_answer};
 

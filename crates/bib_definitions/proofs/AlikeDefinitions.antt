@@ -1,10 +1,5 @@
 -- The table of definitions sees no more of items than which are definitions, and what these give.
-use Rattle.std.proofs.Common.{◌≡◌, ◌∙◌, ℕ, List, length, ap}
-use Rattle.bib_spec.specs.Text.{Text}
-use Rattle.bib_spec.specs.Reading.{Item}
-use Rattle.bib_spec.specs.Texts.{months, macros_at}
-use Rattle.bib_definitions.specs.ByName.{labelled, named_among}
-use Rattle.bib_definitions.specs.Definitions.{Known, definition_numbers, definitions_in, AreDefinitionsOf}
+use Rattle.bib_definitions.proofs.Words.{◌≡◌, ◌∙◌, ℕ, List, length, ap, Text, Item, months, macros_at, labelled, named_among, Known, definition_numbers, definitions_in, AreDefinitionsOf}
 
 -- items that are as much alike have the same table
 pub definitions_alike : (items new : List Item) (known : Known) → definition_numbers items ≡ definition_numbers new → definitions_in items ≡ definitions_in new

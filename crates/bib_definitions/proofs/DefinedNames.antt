@@ -1,15 +1,8 @@
 -- The definitions of a name, and the last of those with a label below a number.
-use Rattle.std.proofs.Common.{◌≡◌, ℕ, zero, suc, ◌≤◌, nat_lt, Bool, true, false, cond, List, [], ◌∷◌, Option, Some, None, unwrap_or, length, slice_index_or, refl, sym, ◌∙◌, ap, ap₂, subst, arith}
-use Rattle.std.specs.Str.{bytes_eq}
-use Rattle.std.specs.List.Sorted.{IsPartitionPoint}
+use Rattle.bib_definitions.proofs.Words.{◌≡◌, ℕ, zero, suc, ◌≤◌, nat_lt, Bool, true, false, cond, List, [], ◌∷◌, Option, Some, None, unwrap_or, length, refl, sym, ◌∙◌, ap, ap₂, subst, arith, bytes_eq, IsPartitionPoint, cond-true, cond-false, Text, folded, eq-true, value_at, IsWith, or_else}
+use Rattle.bib_definitions.proofs.Words.{Definition, Defined, definitions_of, text_before, Gives}
+use Rattle.std.proofs.Common.{slice_index_or}
 use Rattle.std.specs.List.{AllWithin}
-use Rattle.std.proofs.lemmas.Bool.{cond-true, cond-false}
-use Rattle.bib_spec.specs.Text.{Text, folded}
-use Rattle.bib_spec.proofs.Names.{eq-true}
-use Rattle.folded_map.specs.FoldedMap.{value_at, IsWith}
-use Rattle.bib_value.specs.Macros.{or_else}
-use Rattle.bib_definitions.specs.declared.held.Definition.{Definition}
-use Rattle.bib_definitions.specs.ByName.{Defined, definitions_of, text_before, Gives}
 
 pub none_of : (defined : Defined) (name : Text) → value_at defined name ≡ None → definitions_of defined name ≡ []
 none_of defined name none = ap (λ (o : Option (List Definition)). unwrap_or o []) none

@@ -1,23 +1,14 @@
 -- The table of definitions, when definitions and other items come and go.
-use Rattle.std.proofs.Common.{◌≡◌, ◌≢◌, ℕ, zero, suc, ◌+◌, ◌<◌, ◌≤◌, ◌^◌, true, false, cond, List, [], ◌∷◌, ◌++◌, Some, length, map, take, drop, insert, remove, slice_get, ⊎_elim, refl, sym, ◌∙◌, ap, ap₂, subst, arith, length-append, take-append-drop}
-use Rattle.std.specs.Str.{bytes_eq}
-use Rattle.std.specs.List.{AllByRecursion}
-use Rattle.std.proofs.lemmas.Bool.{cases_lt, both_ways}
-use Rattle.std.proofs.lemmas.Option.{none-some, same_Some, slice_get_within}
+use Rattle.bib_definitions.proofs.Words.{◌≡◌, ℕ, zero, suc, ◌+◌, ◌<◌, ◌≤◌, true, false, cond, List, [], ◌∷◌, ◌++◌, Some, length, map, take, insert, remove, slice_get, ⊎_elim, refl, sym, ◌∙◌, ap, ap₂, subst, arith, length-append, bytes_eq, AllByRecursion, cases_lt, both_ways, none-some, same_Some}
+use Rattle.bib_definitions.proofs.Words.{Text, folded, Tree, CommentTree, DefinitionTree, PreambleTree, EntryTree, Item, Macros, months, macros_at, macros_after, gathered, eq-true, or_else, Rise, AreLabels, rank_in, numbered, numbers, Definition, definitions_of, text_before, labelled, named_among}
+use Rattle.bib_definitions.proofs.Words.{with_definition, without_label, Gives, AreAsLong, Known, label_at, texts_at, is_definition_of, is_definition_tree, definition_numbers, defined_by, definitions_in, AreDefinitionsOf}
+use Rattle.std.proofs.Common.{◌≢◌, ◌^◌, drop, take-append-drop}
+use Rattle.std.proofs.lemmas.Option.{slice_get_within}
 use Rattle.std.proofs.lemmas.List.{take_all, take_at, length-take-le}
-use Rattle.bib_spec.specs.Text.{Text, folded}
-use Rattle.bib_spec.specs.Tree.{Tree, CommentTree, DefinitionTree, PreambleTree, EntryTree}
-use Rattle.bib_spec.specs.Reading.{Item}
-use Rattle.bib_spec.specs.Texts.{Macros, months, macros_at, macros_after, gathered}
-use Rattle.bib_spec.proofs.Names.{eq-true}
-use Rattle.bib_value.specs.Macros.{or_else}
-use Rattle.bib_numbers.specs.Labels.{Rise, AreLabels}
-use Rattle.bib_numbers.specs.Numbers.{PartAt, HaveNext, rank_in, numbered, numbers}
+use Rattle.bib_numbers.specs.Numbers.{PartAt, HaveNext}
 use Rattle.bib_numbers.proofs.MovedNumbers.{rank_all, rank_of, taken_number}
 use Rattle.bib_numbers.proofs.ItemNumbers.{front_numbers, rest_numbers, parts_at, numbers-below, numbers-parts, numbers-with, put_numbers, moved_numbers, taken_numbers, closed_numbers}
-use Rattle.bib_definitions.specs.declared.held.Definition.{Definition}
-use Rattle.bib_definitions.specs.ByName.{definitions_of, text_before, labelled, named_among, with_definition, without_label, Gives, AreAsLong}
-use Rattle.bib_definitions.specs.Definitions.{Known, label_at, texts_at, is_definition_of, is_definition_tree, definition_numbers, defined_by, definitions_in, AreDefinitionsOf, Defines, AreSettled}
+use Rattle.bib_definitions.specs.Definitions.{Defines, AreSettled}
 use Rattle.bib_definitions.proofs.MacrosAfter.{after_other, gathered-append}
 use Rattle.bib_definitions.proofs.OrderedNames.{after_all, texts_listed, named_come, named_go}
 

@@ -1,21 +1,11 @@
 -- How many items define a name, and which is the first, as the table of definitions has them.
-use Rattle.std.proofs.Common.{◌≡◌, ℕ, suc, ◌+◌, ◌<◌, Bool, true, false, cond, List, [], ◌∷◌, ◌++◌, Option, Some, None, option_map, slice_get, length, map, ⊎_elim, refl, sym, ◌∙◌, ap, ap₂, subst, arith, length-append, append_assoc}
-use Rattle.std.specs.List.{AllByRecursion}
-use Rattle.std.specs.Str.{bytes_eq}
-use Rattle.std.proofs.lemmas.Bool.{cases_Bool, cond-true, cond-false, both_ways}
-use Rattle.std.proofs.lemmas.Option.{none-some, same_Some}
-use Rattle.bib_spec.specs.Text.{Text, folded}
-use Rattle.bib_spec.specs.Tree.{Tree, CommentTree, DefinitionTree, PreambleTree, EntryTree}
-use Rattle.bib_spec.specs.Reading.{Item}
-use Rattle.bib_spec.specs.Texts.{Macros, months, macros_after, gathered}
+use Rattle.bib_definitions.proofs.Words.{◌≡◌, ℕ, suc, ◌+◌, ◌<◌, Bool, true, false, cond, List, [], ◌∷◌, ◌++◌, Option, Some, None, slice_get, length, map, ⊎_elim, refl, sym, ◌∙◌, ap, ap₂, subst, arith, length-append, append_assoc, AllByRecursion, bytes_eq, cases_Bool, cond-true, cond-false}
+use Rattle.bib_definitions.proofs.Words.{both_ways, none-some, same_Some, Text, folded, Tree, CommentTree, DefinitionTree, PreambleTree, EntryTree, Item, Macros, months, macros_after, gathered, eq-true, true-eq, Rise, rank_in, numbered, numbers, Definition, definitions_of, labelled, named_among}
+use Rattle.bib_definitions.proofs.Words.{Known, is_definition_tree, is_definition_of, defined_by, AreDefinitionsOf}
+use Rattle.std.proofs.Common.{option_map}
 use Rattle.bib_spec.proofs.Counts.{count-yes, count-no}
-use Rattle.bib_spec.proofs.Names.{eq-true, true-eq}
-use Rattle.bib_numbers.specs.Labels.{Rise}
-use Rattle.bib_numbers.specs.Numbers.{rank_in, numbered, numbers}
 use Rattle.bib_numbers.proofs.RisingLabels.{rank_rising}
-use Rattle.bib_definitions.specs.declared.held.Definition.{Definition}
-use Rattle.bib_definitions.specs.ByName.{definitions_of, labelled, named_among}
-use Rattle.bib_definitions.specs.Definitions.{Known, is_definition_tree, is_definition_of, definition_count, first_definition, defined_by, AreDefinitionsOf}
+use Rattle.bib_definitions.specs.Definitions.{definition_count, first_definition}
 use Rattle.bib_definitions.proofs.DefinitionTables.{counted}
 use Rattle.bib_definitions.proofs.OrderedNames.{named_labels}
 

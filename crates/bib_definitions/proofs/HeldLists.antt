@@ -1,18 +1,9 @@
 -- The definitions that are held for each name.
-use Rattle.std.proofs.Common.{◌≡◌, Bool, true, false, cond, List, [], ◌∷◌, Option, Some, None, unwrap_or, option_map, refl, sym, ◌∙◌, ap, subst}
+use Rattle.bib_definitions.proofs.Words.{◌≡◌, Bool, true, false, cond, List, [], ◌∷◌, Option, Some, None, unwrap_or, refl, sym, ◌∙◌, ap, subst, bytes_eq, cond-true, cond-false, none-some, Text, folded, true-eq, value_at, IsWith, Definition, Held, definitions_held, definitions_of, each_held, Gives}
+use Rattle.std.proofs.Common.{option_map}
 use Rattle.std.specs.Prelude.{Result, Ok, Err, OnOk, OnErr}
 use Rattle.std.specs.Option.{IfSome}
-use Rattle.std.specs.Str.{bytes_eq}
-use Rattle.std.proofs.lemmas.Bool.{cond-true, cond-false}
-use Rattle.std.proofs.lemmas.Option.{none-some}
-use Rattle.bib_spec.specs.Text.{Text, folded}
-use Rattle.bib_spec.proofs.Names.{true-eq}
-use Rattle.folded_map.specs.FoldedMap.{value_at, IsWith}
-use Rattle.bib_definitions.specs.declared.held.Definition.{Definition}
-use Rattle.bib_definitions.specs.declared.held.Held.{Held}
 use Rattle.bib_definitions.specs.declared.held.Held.TheVariants.{Nothing}
-use Rattle.bib_definitions.specs.Held.{definitions_held}
-use Rattle.bib_definitions.specs.ByName.{definitions_of, each_held, Gives}
 use Rattle.bib_definitions.proofs.DefinedNames.{gives_with, given_all}
 
 -- a choice of values, and of what they are seen as

@@ -1,3 +1,4 @@
+pub mod Words
 pub mod MacrosAfter
 pub mod DefinedNames
 pub mod PlacedDefinitions

@@ -1,18 +1,10 @@
 -- How long the texts are that names stand for.
-use Rattle.std.proofs.Common.{◌≡◌, ℕ, ◌≤◌, nat_lt, Bool, true, false, cond, List, [], ◌∷◌, length, find, Option, Some, None, ⊎_elim, sym, ap, subst, ◌∙◌, arith, All}
+use Rattle.bib_definitions.proofs.Words.{◌≡◌, ℕ, ◌≤◌, nat_lt, Bool, true, false, cond, List, [], ◌∷◌, length, Option, Some, None, ⊎_elim, sym, ap, subst, ◌∙◌, arith, All, bytes_eq, AllByRecursion, cases_Bool, cond-true, cond-false, none-some, same_Some, Text, folded, Item, months, Definition}
+use Rattle.bib_definitions.proofs.Words.{or_else, Defined, definitions_of, text_before, with_definition, without_label, Gives, AreAsLong, rank_in, Known, label_at, texts_at, AreDefinitionsOf, AreAtMost}
+use Rattle.std.proofs.Common.{find}
 use Rattle.std.specs.Option.{option_map}
-use Rattle.std.specs.Str.{bytes_eq}
-use Rattle.std.specs.List.{AllByRecursion}
-use Rattle.std.proofs.lemmas.Bool.{cases_Bool, cond-true, cond-false}
-use Rattle.std.proofs.lemmas.Option.{none-some, same_Some}
-use Rattle.bib_spec.specs.Text.{Text, folded}
-use Rattle.bib_spec.specs.Reading.{Item}
-use Rattle.bib_spec.specs.Texts.{months, month_names}
-use Rattle.bib_definitions.specs.declared.held.Definition.{Definition}
-use Rattle.bib_value.specs.Macros.{or_else}
-use Rattle.bib_definitions.specs.ByName.{Defined, definitions_of, text_before, texts_before, with_definition, without_label, Gives, AreAsLong}
-use Rattle.bib_numbers.specs.Numbers.{rank_in}
-use Rattle.bib_definitions.specs.Definitions.{Known, label_at, texts_at, AreDefinitionsOf, AreAtMost}
+use Rattle.bib_spec.specs.Texts.{month_names}
+use Rattle.bib_definitions.specs.ByName.{texts_before}
 use Rattle.bib_definitions.proofs.DefinedNames.{given_all}
 use Rattle.bib_definitions.proofs.PlacedDefinitions.{all_by_recursion, all_by_place, all_with, all_without}
 

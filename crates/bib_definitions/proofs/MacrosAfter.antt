@@ -1,10 +1,6 @@
 -- What macros stand for, and what is gathered under them, when items come before others.
-use Rattle.std.proofs.Common.{◌≡◌, true, false, ℕ, zero, suc, ◌≤◌, List, [], ◌∷◌, ◌++◌, length, take, refl, sym, ◌∙◌, ap, arith, append_assoc, not-suc-le-zero, le_of_suc-le-suc}
-use Rattle.std.proofs.lemmas.Bool.{both_ways}
-use Rattle.bib_spec.specs.Tree.{Tree, CommentTree, DefinitionTree, PreambleTree, EntryTree}
-use Rattle.bib_spec.specs.Reading.{Item}
-use Rattle.bib_spec.specs.Texts.{Macros, macros_after, macros_at, gathered}
-use Rattle.bib_definitions.specs.Definitions.{is_definition_tree}
+use Rattle.bib_definitions.proofs.Words.{◌≡◌, true, false, ℕ, zero, suc, ◌≤◌, List, [], ◌∷◌, ◌++◌, length, take, refl, sym, ◌∙◌, ap, arith, append_assoc, both_ways, Tree, CommentTree, DefinitionTree, PreambleTree, EntryTree, Item, Macros, macros_after, macros_at, gathered, is_definition_tree}
+use Rattle.std.proofs.Common.{not-suc-le-zero, le_of_suc-le-suc}
 
 -- an item that is no definition leaves the macros as they are
 pub after_other : (m : Macros) (tree : Tree) → is_definition_tree tree ≡ false → macros_after m tree ≡ m

@@ -1,17 +1,8 @@
 -- All definitions in file order with their labels, those of each name, and what macros stand for before a label.
-use Rattle.std.proofs.Common.{◌≡◌, ℕ, zero, suc, ◌<◌, ◌≤◌, nat_lt, Bool, true, false, cond, List, [], ◌∷◌, ◌++◌, Option, Some, None, length, take, ⊎_elim, refl, sym, ◌∙◌, ap, ap₂, arith}
-use Rattle.std.specs.Str.{bytes_eq}
-use Rattle.std.specs.List.{AllByRecursion}
-use Rattle.std.proofs.lemmas.Bool.{cases_Bool, cond-true, cond-false, lt-ltb, le-ltb}
-use Rattle.bib_spec.specs.Text.{Text}
-use Rattle.bib_spec.specs.Texts.{Macros}
-use Rattle.bib_spec.proofs.Names.{eq-true}
-use Rattle.bib_value.specs.Macros.{or_else}
-use Rattle.bib_numbers.specs.Labels.{label_limit, Rise, AreLabels}
+use Rattle.bib_definitions.proofs.Words.{◌≡◌, ℕ, zero, suc, ◌<◌, ◌≤◌, nat_lt, Bool, true, false, cond, List, [], ◌∷◌, ◌++◌, Option, Some, None, length, take, ⊎_elim, refl, sym, ◌∙◌, ap, ap₂, arith, bytes_eq, AllByRecursion, cases_Bool, cond-true, cond-false, lt-ltb, le-ltb, Text, Macros, eq-true}
+use Rattle.bib_definitions.proofs.Words.{or_else, Rise, AreLabels, Definition, labelled, named_among, text_before, with_definition, without_label, label_at}
+use Rattle.bib_numbers.specs.Labels.{label_limit}
 use Rattle.bib_numbers.proofs.RisingLabels.{rise_parted}
-use Rattle.bib_definitions.specs.declared.held.Definition.{Definition}
-use Rattle.bib_definitions.specs.ByName.{labelled, named_among, text_before, with_definition, without_label}
-use Rattle.bib_definitions.specs.Definitions.{label_at}
 use Rattle.bib_definitions.proofs.PlacedDefinitions.{with_parts, without_parts}
 
 -- ---- those of a name

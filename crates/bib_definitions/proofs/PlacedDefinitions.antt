@@ -1,10 +1,8 @@
 -- Definitions in the order of their labels, when one comes or goes.
-use Rattle.std.proofs.Common.{◌≡◌, ℕ, zero, suc, ◌<◌, ◌≤◌, nat_lt, nat_eq, Bool, true, false, cond, List, [], ◌∷◌, ◌++◌, length, get_or, insert, remove, ⊎_elim, refl, sym, ◌∙◌, ap, subst, arith, All}
-use Rattle.std.specs.List.{AllByRecursion}
-use Rattle.std.specs.List.Sorted.{IsPartitionPoint}
-use Rattle.std.proofs.lemmas.Bool.{cases_lt, cond-true, cond-false, lt-ltb, le-ltb, ltb-true, ltb-false, eq-eqb, ne_eqb}
-use Rattle.bib_definitions.specs.declared.held.Definition.{Definition}
-use Rattle.bib_definitions.specs.ByName.{with_definition, without_label, Ascends}
+use Rattle.bib_definitions.proofs.Words.{◌≡◌, ℕ, zero, suc, ◌<◌, ◌≤◌, nat_lt, Bool, true, false, cond, List, [], ◌∷◌, ◌++◌, length, get_or, insert, remove, ⊎_elim, refl, sym, ◌∙◌, ap, subst, arith, All, AllByRecursion, IsPartitionPoint, cases_lt, cond-true, cond-false, lt-ltb, le-ltb, Definition}
+use Rattle.bib_definitions.proofs.Words.{with_definition, without_label, Ascends}
+use Rattle.std.proofs.Common.{nat_eq}
+use Rattle.std.proofs.lemmas.Bool.{ltb-true, ltb-false, eq-eqb, ne_eqb}
 
 -- ---- one by one
 

@@ -59,7 +59,7 @@ pub use Rattle.bib_spec.specs.Tree.{Assignment, Braced, CommentTree, Definition,
 pub use Rattle.bib_spec.specs.Tree.{last_comma_bytes, link_bytes, opening_bytes, part_bytes, row_bytes, tree_bytes, value_bytes}
 pub use Rattle.bib_store.proofs.ChosenFields.{any_mapped}
 pub use Rattle.bib_store.proofs.EntryItems.{entry_at, entry_stands, entry_within, key_at_entry, length-entry_items, length-entry_numbers}
-pub use Rattle.bib_store.specs.Meaning.{OfReading, entry_items, entry_numbers, is_entry_tree}
+pub use Rattle.bib_store.specs.Readings.{OfReading, entry_items, entry_numbers, is_entry_tree}
 pub use Rattle.bib_tokens.proofs.Elements.{slice_get-within}
 pub use Rattle.bib_tokens.proofs.FirstFound.{first-any, first-count, none-count}
 pub use Rattle.bib_tokens.proofs.PlacedFields.{tokens-append, value-place}

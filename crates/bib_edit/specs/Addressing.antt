@@ -6,7 +6,7 @@ use Rattle.bib_spec.specs.Reading.{Reading}
 use Rattle.bib_spec.specs.Records.{entries_of, entry_named}
 use Rattle.edit_spec.specs.Edits.{is_entry, holders}
 use Rattle.bib_scan.specs.View.{Field, field_seen}
-use Rattle.bib_store.specs.Meaning.{OfReading}
+use Rattle.bib_store.specs.Readings.{OfReading}
 use Rattle.bib_tokens.specs.FirstItem.{first_item}
 use Rattle.bib_tokens.specs.PlacedParts.{field_end}
 use Rattle.bib_edit.specs.declared.address.SoughtFields.{SoughtFields}

@@ -6,7 +6,7 @@ use Rattle.bib_spec.specs.Text.{Text, folded, same}
 use Rattle.bib_spec.specs.Tree.{Definition, DefinitionTree, opening_bytes}
 use Rattle.bib_spec.specs.Reading.{Item, Reading}
 use Rattle.bib_spec.specs.Texts.{months}
-use Rattle.bib_store.specs.Meaning.{OfReading}
+use Rattle.bib_store.specs.Readings.{OfReading}
 use Rattle.part_spec.specs.Parts.{uses, have_part}
 use Rattle.edit_spec.specs.Edits.{defines, definitions}
 use Rattle.bib_tokens.specs.FirstItem.{first_item}

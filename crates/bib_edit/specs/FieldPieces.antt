@@ -8,7 +8,7 @@ use Rattle.bib_spec.specs.Reading.{Item}
 use Rattle.bib_spec.specs.Pieces.{Piece}
 use Rattle.bib_scan.specs.View.{Field, View, view_of}
 use Rattle.bib_scan.specs.Layout.{start_of}
-use Rattle.bib_store.specs.Meaning.{OfReading}
+use Rattle.bib_store.specs.Readings.{OfReading}
 use Rattle.bib_tokens.specs.PlacedParts.{field_end}
 use Rattle.bib_edit.specs.Addressing.{item_named, is_field}
 

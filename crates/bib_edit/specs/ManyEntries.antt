@@ -6,7 +6,7 @@ use Rattle.bib_spec.specs.Tree.{is_type}
 use Rattle.bib_spec.specs.Reading.{Reading}
 use Rattle.bib_spec.specs.Pieces.{Piece}
 use Rattle.edit_spec.specs.Edits.{has_same, holders}
-use Rattle.bib_store.specs.Meaning.{OfReading}
+use Rattle.bib_store.specs.Readings.{OfReading}
 use Rattle.bib_data.specs.declared.edit.NewEntry.{NewEntry}
 use Rattle.bib_data.specs.declared.edit.Edit.{Edit}
 use Rattle.bib_data.specs.declared.edit.Edit.TheVariants.{AddEntry, AddMany}

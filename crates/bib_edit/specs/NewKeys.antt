@@ -12,7 +12,7 @@ use Rattle.edit_spec.specs.EditChunks.{key_chunks}
 use Rattle.bib_scan.specs.View.{Field, View, view_of}
 use Rattle.bib_scan.specs.Layout.{start_of}
 use Rattle.bib_entries.specs.EntryTable.{referrers}
-use Rattle.bib_store.specs.Meaning.{entry_numbers}
+use Rattle.bib_store.specs.Readings.{entry_numbers}
 use Rattle.bib_store.specs.Tables.{crossrefs_of}
 use Rattle.bib_edit.specs.Addressing.{is_field}
 use Rattle.bib_edit.specs.Definitions.{braced}

@@ -4,7 +4,7 @@ use Rattle.bib_spec.specs.Text.{Text}
 use Rattle.bib_spec.specs.Pieces.{Piece}
 use Rattle.edit_spec.specs.Edits.{IsAccepted, IsFirstRefusal}
 use Rattle.edit_spec.specs.EditChunks.{pieces_of}
-use Rattle.bib_store.specs.Meaning.{OfReading}
+use Rattle.bib_store.specs.Readings.{OfReading}
 use Rattle.bib_data.specs.declared.edit.Edit.{Edit}
 use Rattle.bib_edit.specs.declared.fault.EditFault.{EditFault}
 use Rattle.bib_keys.specs.MadeBase.{made_base}

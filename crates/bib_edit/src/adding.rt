@@ -1,7 +1,7 @@
 //! Adds entries before an item: one, or many at the end of the file.
 
 ghost use Rattle.std.specs.Prelude.{OnOk, IfOk, IfErr};
-ghost use Rattle.bib_store.specs.Meaning.{OfReading};
+ghost use Rattle.bib_store.specs.Readings.{OfReading};
 ghost use Rattle.bib_edit.specs.Planning.{IsAllowedEdit, ArePiecesOf, IsRefusal};
 ghost use Rattle.bib_edit.specs.ManyEntries.{Adds, AreAddable};
 ghost use Rattle.bib_data.specs.declared.edit.Edit.{Edit};

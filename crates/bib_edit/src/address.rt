@@ -3,7 +3,7 @@
 ghost use Rattle.std.specs.Prelude.{◌≡◌, find, IfOk, IfErr};
 ghost use Rattle.std.specs.Option.{option_map};
 ghost use Rattle.bib_scan.specs.View.{field_seen};
-ghost use Rattle.bib_store.specs.Meaning.{OfReading};
+ghost use Rattle.bib_store.specs.Readings.{OfReading};
 ghost use Rattle.bib_edit.specs.Addressing.{IsHeldAt, IsLoneNumber, IsHolderFault, is_field, AreSought};
 
 use crate::fault::EditFault;

@@ -3,7 +3,7 @@
 ghost use Rattle.std.specs.Prelude.{◌≡◌, true};
 ghost use Rattle.bib_spec.specs.Text.{is_new_key};
 ghost use Rattle.bib_spec.specs.Records.{entries_of};
-ghost use Rattle.bib_store.specs.Meaning.{OfReading};
+ghost use Rattle.bib_store.specs.Readings.{OfReading};
 ghost use Rattle.bib_edit.specs.Dangling.{is_awaited};
 
 use bib_store::{Database, ItemList};

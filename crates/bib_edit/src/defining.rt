@@ -5,7 +5,7 @@ ghost use Rattle.std.specs.Option.{option_map};
 ghost use Rattle.bib_spec.specs.Tree.{Definition};
 ghost use Rattle.edit_spec.specs.Edits.{text_of_macro};
 ghost use Rattle.bib_scan.specs.Layout.{start_of};
-ghost use Rattle.bib_store.specs.Meaning.{OfReading};
+ghost use Rattle.bib_store.specs.Readings.{OfReading};
 ghost use Rattle.bib_edit.specs.Definitions.{IsDefinedAt, IsDefinitionFault, IsDefinitionAt, IsDefinitionNumber, braced, name_token, is_given};
 ghost use Rattle.bib_tokens.specs.PlacedParts.{token_seen};
 

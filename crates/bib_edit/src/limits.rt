@@ -5,7 +5,7 @@ ghost use Rattle.bib_spec.specs.Bytes.{file_limit};
 ghost use Rattle.bib_spec.specs.Texts.{months, macros_at, raw_text, raw_limit};
 ghost use Rattle.bib_scan.specs.ValueParts.{IsPartsOf};
 ghost use Rattle.bib_value.specs.Raw.{OfValue};
-ghost use Rattle.bib_store.specs.Meaning.{OfReading, IsItemPlace};
+ghost use Rattle.bib_store.specs.Readings.{OfReading, IsItemGap};
 ghost use Rattle.bib_edit.specs.Limits.{olds_len, news_len};
 
 use bib_scan::{FILE_LIMIT, Parts};
@@ -60,7 +60,7 @@ pub(crate) fn is_text_too_long<L: ItemList>(
     parts: &Parts,
     value: &[u8],
 ) -> bool
-    requires place { IsItemPlace db.now n }
+    requires place { IsItemGap db.now n }
     requires value { IsPartsOf value.now parts.now }
     ensures { OfReading db.now (λ r. OfValue value.now (λ v. result ≡ nat_lt raw_limit (length (raw_text (macros_at months r.items n) v)))) }
 {

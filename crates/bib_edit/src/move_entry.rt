@@ -1,7 +1,7 @@
 //! Moves an entry.
 
 ghost use Rattle.std.specs.Prelude.{OnOk, IfOk, IfErr};
-ghost use Rattle.bib_store.specs.Meaning.{OfReading};
+ghost use Rattle.bib_store.specs.Readings.{OfReading};
 ghost use Rattle.bib_edit.specs.Planning.{IsAllowedEdit, ArePiecesOf, IsRefusal};
 ghost use Rattle.bib_edit.specs.Moving.{IsMovable};
 ghost use Rattle.bib_data.specs.declared.edit.Edit.TheVariants.{MoveEntry};

@@ -2,7 +2,7 @@
 
 ghost use Rattle.std.specs.Prelude.{◌≡◌, [], ◌∷◌, IfOk, IfErr};
 ghost use Rattle.edit_spec.specs.Edits.{MoveEntry, last_position};
-ghost use Rattle.bib_store.specs.Meaning.{OfReading, IsItemNumber, IsItemPlace};
+ghost use Rattle.bib_store.specs.Readings.{OfReading, IsItemNumber, IsItemGap};
 ghost use Rattle.bib_edit.specs.Moving.{next_item, line_of, moved_pieces, FieldsHaveValues, IsFieldLong};
 ghost use Rattle.bib_edit.specs.declared.fault.EditFault.TheVariants.{Memory};
 
@@ -85,7 +85,7 @@ pub(crate) fn is_field_long<L: ItemList>(
     n: usize,
     fields: Fields<'_>,
 ) -> Result<bool, EditFault>
-    requires place { IsItemPlace db.now n }
+    requires place { IsItemGap db.now n }
     requires values { FieldsHaveValues fields }
     ensures long { IfOk result (λ long. OfReading db.now (λ r. IsFieldLong long r n fields.entry)) }
     ensures only { IfErr result (λ fault. fault ≡ Memory) }

@@ -5,7 +5,7 @@ ghost use Rattle.std.specs.List.{list_all};
 ghost use Rattle.bib_spec.specs.Text.{is_name, is_new_key};
 ghost use Rattle.bib_spec.specs.Tree.{is_type};
 ghost use Rattle.edit_spec.specs.Edits.{has_same, holders};
-ghost use Rattle.bib_store.specs.Meaning.{OfReading, IsItemPlace};
+ghost use Rattle.bib_store.specs.Readings.{OfReading, IsItemGap};
 ghost use Rattle.bib_edit.specs.ManyEntries.{keys_given, names_given, types_given, are_named, AllHaveValues, has_field_twice, is_any_held, AreAnyLong, put_in};
 ghost use Rattle.bib_edit.specs.declared.fault.EditFault.TheVariants.{Memory};
 
@@ -130,7 +130,7 @@ pub(crate) fn are_any_long<L: ItemList>(
     n: usize,
     entries: &[NewEntry],
 ) -> Result<bool, EditFault>
-    requires place { IsItemPlace db.now n }
+    requires place { IsItemGap db.now n }
     requires values { AllHaveValues entries.now }
     ensures long { IfOk result (λ long. OfReading db.now (λ r. AreAnyLong long r n entries.now)) }
     ensures only { IfErr result (λ fault. fault ≡ Memory) }
@@ -150,7 +150,7 @@ pub(crate) fn put_in<L: ItemList>(
     n: usize,
     text: Text,
 ) -> Result<Seq<Piece>, EditFault>
-    requires { IsItemPlace db.now n }
+    requires { IsItemGap db.now n }
     ensures pieces { IfOk result (λ pieces. OfReading db.now (λ r. pieces ≡ put_in r n text)) }
     ensures only { IfErr result (λ fault. fault ≡ Memory) }
 {

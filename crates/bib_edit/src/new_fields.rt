@@ -6,7 +6,7 @@ ghost use Rattle.bib_spec.specs.Bytes.{name_limit};
 ghost use Rattle.bib_spec.specs.Text.{is_name, same};
 ghost use Rattle.bib_spec.specs.Reading.{IsValueWithin};
 ghost use Rattle.edit_spec.specs.Edits.{has_same};
-ghost use Rattle.bib_store.specs.Meaning.{OfReading, IsItemPlace};
+ghost use Rattle.bib_store.specs.Readings.{OfReading, IsItemGap};
 ghost use Rattle.bib_edit.specs.NewEntries.{names_of, HaveValues, IsLong, IsAnyLong};
 ghost use Rattle.bib_edit.specs.declared.fault.EditFault.TheVariants.{Memory};
 
@@ -96,7 +96,7 @@ pub(crate) fn is_long<L: ItemList>(
     n: usize,
     value: &[u8],
 ) -> Result<bool, EditFault>
-    requires place { IsItemPlace db.now n }
+    requires place { IsItemGap db.now n }
     requires value { IsValueWithin name_limit value.now }
     ensures long { IfOk result (λ long. OfReading db.now (λ r. IsLong long r n value.now)) }
     ensures only { IfErr result (λ fault. fault ≡ Memory) }
@@ -117,7 +117,7 @@ pub(crate) fn is_any_long<L: ItemList>(
     n: usize,
     fields: &[(Text, Text)],
 ) -> Result<bool, EditFault>
-    requires place { IsItemPlace db.now n }
+    requires place { IsItemGap db.now n }
     requires values { HaveValues fields.now }
     ensures long { IfOk result (λ long. OfReading db.now (λ r. IsAnyLong long r n fields.now)) }
     ensures only { IfErr result (λ fault. fault ≡ Memory) }

@@ -1,7 +1,7 @@
 //! Pieces that are made of bytes.
 
 ghost use Rattle.std.specs.Prelude.{◌≡◌, [], ◌∷◌, IfOk, IfErr};
-ghost use Rattle.bib_store.specs.Meaning.{OfReading, IsItemPlace};
+ghost use Rattle.bib_store.specs.Readings.{OfReading, IsItemGap};
 ghost use Rattle.bib_edit.specs.NewEntries.{insertion_of};
 ghost use Rattle.bib_edit.specs.declared.fault.EditFault.TheVariants.{Memory};
 
@@ -34,7 +34,7 @@ pub(crate) fn insertion_of<L: ItemList>(
     n: usize,
     text: Text,
 ) -> Piece
-    requires { IsItemPlace db.now n }
+    requires { IsItemGap db.now n }
     ensures { OfReading db.now (λ r. result ≡ insertion_of r n text) }
 {
     Piece {

@@ -7,7 +7,7 @@ ghost use Rattle.bib_spec.specs.Records.{entries_of, entry_named, target};
 ghost use Rattle.bib_spec.specs.Reading.{Item};
 ghost use Rattle.bib_scan.specs.View.{view_of};
 ghost use Rattle.bib_scan.specs.Layout.{start_of};
-ghost use Rattle.bib_store.specs.Meaning.{OfReading, IsEntryNumber, IsItemPlace, entry_items};
+ghost use Rattle.bib_store.specs.Readings.{OfReading, IsEntryNumber, IsItemGap, entry_items};
 ghost use Rattle.bib_edit.specs.Definitions.{braced};
 ghost use Rattle.bib_edit.specs.NewKeys.{key_of, key_piece, crossref_piece, new_target, IsEntrySeen, IsEntryPlace, pieces_at, rekeying, RefersAt, ArePassed, AreQuiet, HavePieces};
 ghost use Rattle.bib_edit.specs.declared.fault.EditFault.TheVariants.{Memory};
@@ -149,7 +149,7 @@ fn push_entry<L: ItemList>(
 
 /// The place of item `to`, given that of item `from`. It takes a look at each item between them.
 fn place_from<L: ItemList>(db: &Database<L>, from: usize, at: usize, to: usize) -> usize
-    requires to { IsItemPlace db.now to }
+    requires to { IsItemGap db.now to }
     requires at { OfReading db.now (λ r. at ≡ start_of r from) }
     ensures { OfReading db.now (λ r. result ≡ start_of r to) }
 {

@@ -5,7 +5,7 @@ ghost use Rattle.bib_spec.specs.Text.{is_name};
 ghost use Rattle.bib_spec.specs.Tree.{Definition};
 ghost use Rattle.part_spec.specs.Parts.{uses};
 ghost use Rattle.bib_scan.specs.Layout.{start_of};
-ghost use Rattle.bib_store.specs.Meaning.{OfReading, IsItemPlace};
+ghost use Rattle.bib_store.specs.Readings.{OfReading, IsItemGap};
 ghost use Rattle.bib_edit.specs.Definitions.{IsDefinitionAt, IsDefinitionNumber, name_token, is_taken_before, is_taken_from};
 ghost use Rattle.bib_tokens.specs.PlacedParts.{items_placed, tokens_of, tokens_seen};
 ghost use Rattle.bib_edit.specs.declared.fault.EditFault.TheVariants.{Memory};
@@ -70,7 +70,7 @@ fn is_taken_before<L: ItemList>(
     from: &[u8],
     to: &[u8],
 ) -> Result<bool, EditFault>
-    requires { IsItemPlace db.now n }
+    requires { IsItemGap db.now n }
     ensures taken { IfOk result (λ taken. OfReading db.now (λ r. taken ≡ is_taken_before n from.now to.now r.items)) }
     ensures only { IfErr result (λ fault. fault ≡ Memory) }
 {

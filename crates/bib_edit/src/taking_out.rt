@@ -4,7 +4,7 @@ ghost use Rattle.std.specs.Prelude.{◌≡◌, ◌↔◌, IsTrue, IfOk, IfErr};
 ghost use Rattle.bib_spec.specs.Tree.{is_comment};
 ghost use Rattle.bib_spec.specs.Reading.{Item};
 ghost use Rattle.bib_scan.specs.View.{view_of};
-ghost use Rattle.bib_store.specs.Meaning.{OfReading, IsItemNumber};
+ghost use Rattle.bib_store.specs.Readings.{OfReading, IsItemNumber};
 ghost use Rattle.bib_edit.specs.Removal.{body_at, is_after_comment, text_before, JoinsCleanly, removal_of};
 ghost use Rattle.bib_edit.specs.declared.fault.EditFault.TheVariants.{Memory};
 

@@ -1,15 +1,9 @@
 -- The bytes of items, put one after another after a text.
-use Rattle.std.proofs.Common.{◌≡◌, ℕ, ◌+◌, ◌-◌, ◌≤◌, ◌<◌, suc, List, [], ◌∷◌, ◌++◌, length, take, drop, get_or, refl, sym, ◌∙◌, ap, arith, append-nil, append_assoc, length-drop}
-use Rattle.std.proofs.lemmas.List.{drop-drop, take_more, get_or-drop, flat_map_more, drop-append-le, drop_at, take-append-le, take-take, take_at, length-append}
-use Rattle.std.proofs.lemmas.List.Concat.{flat_map-append}
-use Rattle.std.proofs.Math.Seq.{take-add}
-use Rattle.std.specs.List.{flat_map, between}
-use Rattle.bib_spec.specs.Text.{Text}
-use Rattle.bib_items.specs.declared.list.Item.{Item}
-use Rattle.bib_items.specs.Items.{item, item_at, kept_bytes}
-use Rattle.bib_pages.specs.Pages.{joined, page_at, IsOnWay}
-use Rattle.bib_pages.proofs.Paging.{joined-split, length-joined-more}
-use Rattle.bib_pages.proofs.Ways.{on_way_more, on_way_end}
+use Rattle.bib_items.proofs.Words.{◌≡◌, ℕ, ◌+◌, ◌-◌, ◌≤◌, ◌<◌, suc, List, [], ◌∷◌, ◌++◌, length, take, drop, get_or, refl, sym, ◌∙◌, ap, arith, append_assoc, drop-drop, take_more, get_or-drop, drop-append-le, drop_at, take-append-le, take-take, take_at, flat_map-append, take-add, flat_map, between}
+use Rattle.bib_items.proofs.Words.{Text, Item, item, item_at, kept_bytes, joined, page_at, IsOnWay, length-joined-more, on_way_more, on_way_end}
+use Rattle.std.proofs.Common.{append-nil, length-drop}
+use Rattle.std.proofs.lemmas.List.{flat_map_more, length-append}
+use Rattle.bib_pages.proofs.Paging.{joined-split}
 
 abbrev all_bytes : List Item → Text
 all_bytes items = flat_map kept_bytes items

@@ -1,14 +1,9 @@
 -- Items whose marks are known.
-use Rattle.std.proofs.Common.{◌≡◌, ℕ, suc, ◌+◌, ◌≤◌, ◌<◌, ◌^◌, List, [], ◌∷◌, ◌++◌, Option, Some, None, length, take, drop, set, insert, remove, sym, subst}
-use Rattle.std.proofs.lemmas.List.{take_all}
-use Rattle.std.proofs.lemmas.List.Elements.{All-nil, All-cons, All-take, All-drop, All-append, All-set, All-weaker, All-more, All-from_get_or}
-use Rattle.bib_spec.specs.Text.{Text}
-use Rattle.bib_items.specs.declared.list.Item.{Item}
-use Rattle.bib_items.specs.declared.span.Span.{Span}
-use Rattle.bib_items.specs.Items.{item, item_at}
-use Rattle.bib_items.specs.PageOwn.{PageOwn, only_bytes}
-use Rattle.bib_items.specs.Spans.{total, items_in, LieInEither, AreLaid, Extends}
-use Rattle.bib_items.specs.PartMarks.{KeepsMarks, HasItemMarks, IsCovered, AreCovered}
+use Rattle.bib_items.proofs.Words.{◌≡◌, ℕ, suc, ◌+◌, ◌≤◌, ◌<◌, List, [], ◌∷◌, ◌++◌, Option, Some, None, length, take, drop, set, insert, remove, sym, subst, take_all, All-nil, All-cons, All-take, All-drop, All-append, All-set, All-weaker, Text, Item, Span, item, item_at, PageOwn, total, items_in}
+use Rattle.bib_items.proofs.Words.{LieInEither, AreLaid, Extends, KeepsMarks, HasItemMarks, IsCovered, AreCovered}
+use Rattle.std.proofs.Common.{◌^◌}
+use Rattle.std.proofs.lemmas.List.Elements.{All-more, All-from_get_or}
+use Rattle.bib_items.specs.PageOwn.{only_bytes}
 use Rattle.bib_items.proofs.ItemsIn.{items_further, all_further}
 use Rattle.bib_items.proofs.PartMarks.{item-kept}
 

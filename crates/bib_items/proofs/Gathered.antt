@@ -1,23 +1,12 @@
 -- The places of the items of a text that was read, page by page.
-use Rattle.std.proofs.Common.{◌≡◌, ℕ, ◌+◌, ◌-◌, ◌≤◌, ◌<◌, List, [], ◌∷◌, ◌++◌, length, take, drop, get_or, sym, ◌∙◌, ap, ap₂, refl, arith, inl, append_assoc, take-append-drop, length-append, length-drop, Some}
-use Rattle.std.proofs.lemmas.List.{length-map, map-append, append-nil, take_all, take_more, drop_more, length-take-le, get_or-drop}
-use Rattle.std.proofs.Math.Seq.{take-add}
-use Rattle.std.proofs.lemmas.Option.{slice_get-get_or}
-use Rattle.std.specs.List.{slice_get, flat_map}
-use Rattle.std.proofs.lemmas.List.Concat.{flat_map-append}
-use Rattle.std.proofs.lemmas.List.Elements.{All-nil, All-push}
-use Rattle.bib_spec.specs.Text.{Text}
-use Rattle.bib_spec.specs.Tree.{tree_bytes}
+use Rattle.bib_items.proofs.Words.{◌≡◌, ℕ, ◌+◌, ◌-◌, ◌≤◌, ◌<◌, List, [], ◌∷◌, ◌++◌, length, take, drop, get_or, sym, ◌∙◌, ap, ap₂, refl, arith, inl, append_assoc, take-append-drop, Some, length-map, map-append, take_all, take_more, drop_more, length-take-le, get_or-drop, take-add, slice_get-get_or}
+use Rattle.bib_items.proofs.Words.{flat_map, flat_map-append, All-nil, All-push, Text, tree_bytes, Reading, Reads, Places, IsLayoutOf, start_of, Item, Span, item, stored, kept_bytes, all_stored, total, item_in, items_in, LiesInEither, LieInEither, page_limit, IsPage, ArePages, joined, all_append}
+use Rattle.bib_items.proofs.Words.{joined-append}
+use Rattle.std.proofs.Common.{length-append, length-drop}
+use Rattle.std.proofs.lemmas.List.{append-nil}
+use Rattle.std.specs.List.{slice_get}
 use Rattle.bib_spec.specs.Reading as reading
-use Rattle.bib_spec.specs.Reading.{Reading, Reads, item_bytes}
-use Rattle.bib_scan.specs.Layout.{Places, IsLayoutOf, start_of}
-use Rattle.bib_items.specs.declared.list.Item.{Item}
-use Rattle.bib_items.specs.declared.span.Span.{Span}
-use Rattle.bib_items.specs.Items.{item, stored, kept_bytes, all_stored}
-use Rattle.bib_items.specs.Spans.{total, item_in, items_in, LiesInEither, LieInEither}
-use Rattle.bib_items.specs.Pages.{page_limit, IsPage, ArePages}
-use Rattle.bib_pages.specs.Pages.{joined}
-use Rattle.bib_pages.proofs.Paging.{all_append, joined-append}
+use Rattle.bib_spec.specs.Reading.{item_bytes}
 use Rattle.bib_items.proofs.ItemsIn.{total-append, standing_is}
 use Rattle.bib_items.proofs.Filled.{any_item, counted_layout}
 

@@ -1,25 +1,21 @@
 -- A word that is sought in an item's bytes.
-use Rattle.std.proofs.Common.{◌≡◌, ℕ, ◌+◌, ◌-◌, ◌<◌, ◌≤◌, Bool, true, false, List, [], ◌∷◌, ◌++◌, length, take, drop, get_or, Some, None, ⊎_elim, refl, sym, ap, subst, subst₂, ◌∙◌, arith, map, append_assoc, take-append-drop, length-append}
+use Rattle.bib_items.proofs.Words.{◌≡◌, ℕ, ◌+◌, ◌-◌, ◌<◌, ◌≤◌, Bool, List, [], ◌∷◌, ◌++◌, length, take, drop, get_or, Some, None, ⊎_elim, refl, sym, ap, subst, subst₂, ◌∙◌, arith, map, append_assoc, take-append-drop, cases_Bool, cases_lt, get_or-drop, get_or_append_left, length-map, take-map}
+use Rattle.bib_items.proofs.Words.{AllByRecursion, flat_map, list_any, bytes_eq, Text, folded, same, Part, Braced, Quoted, Digits, Macro, Value, Row, Tree, CommentTree, DefinitionTree, PreambleTree, EntryTree, value_bytes, row_bytes, opening_bytes, tree_bytes, parts_of, values_of, eq-true, Sought}
+use Rattle.bib_items.proofs.Words.{test_of, LacksPart, mark_len, head_of}
+use Rattle.std.proofs.Common.{true, false, length-append}
 use Rattle.std.specs.Char.{to_ascii_lowercase, to_ascii_uppercase}
-use Rattle.std.proofs.lemmas.Bool.{cases_Bool, cases_lt, or_parts, eqb-false, true≢false}
+use Rattle.std.proofs.lemmas.Bool.{or_parts, eqb-false, true≢false}
 use Rattle.std.proofs.lemmas.Str.Ascii.{lowercase_is, uppercase_is}
-use Rattle.std.proofs.lemmas.List.{get_or-drop, get_or-append-add, get_or_append_left, length-map, length-drop, take-map}
+use Rattle.std.proofs.lemmas.List.{get_or-append-add, length-drop}
 use Rattle.std.proofs.Math.Seq.{drop-append_seam, take-append_seam}
 use Rattle.std.proofs.Math.ListN.{get_or-map as get_or-mapped}
-use Rattle.std.specs.List.{AllByRecursion, flat_map, list_any}
 use Rattle.std.specs.Prelude.{◌==◌}
-use Rattle.std.specs.Str.{bytes_eq}
 use Rattle.memchr.specs.Find.{IsFirstByte, is_byte2}
 use Rattle.bib_spec.specs.Bytes.{comma, equals_sign, hash, open_brace, close_brace, quote}
-use Rattle.bib_spec.specs.Text.{Text, folded, same}
-use Rattle.bib_spec.specs.Tree.{Part, Braced, Quoted, Digits, Macro, Link, Value, Row, Tree, CommentTree, DefinitionTree, PreambleTree, EntryTree, part_bytes, link_bytes, value_bytes, row_bytes, opening_bytes, last_comma_bytes, close_byte, tree_bytes}
-use Rattle.bib_spec.specs.Texts.{parts_of, values_of}
-use Rattle.bib_spec.proofs.Names.{eq-true, same-true, true-same}
-use Rattle.bib_items.specs.declared.seeking.Sought.{Sought}
+use Rattle.bib_spec.specs.Tree.{Link, part_bytes, link_bytes, last_comma_bytes, close_byte}
+use Rattle.bib_spec.proofs.Names.{same-true, true-same}
 use Rattle.bib_items.specs.declared.seeking.Sought.TheVariants as sought
-use Rattle.bib_items.specs.Seeking.{test_of, LacksPart}
-use Rattle.bib_items.specs.PartMarks.{mark_len}
-use Rattle.bib_items.specs.Glancing.{LacksWord, head_of}
+use Rattle.bib_items.specs.Glancing.{LacksWord}
 use Rattle.bib_items.proofs.PartMarks.{none-passes}
 
 -- ---- the byte that is looked for

@@ -1,13 +1,10 @@
 -- Items by the places where their bytes lie.
-use Rattle.std.proofs.Common.{◌≡◌, ℕ, zero, ◌+◌, ◌-◌, ◌≤◌, ◌<◌, suc, set, List, [], ◌∷◌, ◌++◌, length, take, drop, get_or, sym, ◌∙◌, ap, ap₂, refl, subst, arith, inl, inr, append_assoc, take-append-drop, length-append, length-drop, insert, remove}
-use Rattle.std.specs.List.{flat_map}
-use Rattle.std.proofs.lemmas.List.{append-nil, take_at, drop_at, drop-drop, take_more, take_all, take-append-le, drop-append-le, length-take-le, length-map, map-append, map-set, take-map, drop-map, get_or-map, get_or_default}
-use Rattle.std.proofs.lemmas.List.Elements.{All-head, All-tail, All-cons, All-nil, All-take, All-drop, All-append, All-push, All-set, All-get_or, All-weaker}
-use Rattle.bib_spec.specs.Text.{Text}
-use Rattle.bib_items.specs.declared.list.Item.{Item}
-use Rattle.bib_items.specs.declared.span.Span.{Span}
-use Rattle.bib_items.specs.Items.{item, item_at, kept_bytes}
-use Rattle.bib_items.specs.Spans.{span_end, total, item_in, items_in, LiesInEither, LieInEither, Extends}
+use Rattle.bib_items.proofs.Words.{◌≡◌, ℕ, zero, ◌+◌, ◌-◌, ◌≤◌, ◌<◌, suc, set, List, [], ◌∷◌, ◌++◌, length, take, drop, get_or, sym, ◌∙◌, ap, ap₂, refl, subst, arith, inl, append_assoc, take-append-drop, insert, remove, flat_map, take_at, drop_at, drop-drop, take_more, take_all, take-append-le}
+use Rattle.bib_items.proofs.Words.{drop-append-le, length-take-le, length-map, map-append, take-map, All-head, All-tail, All-cons, All-nil, All-take, All-drop, All-append, All-push, All-set, All-weaker, Text, Item, Span, item, item_at, kept_bytes, span_end, total, item_in, items_in, LiesInEither}
+use Rattle.bib_items.proofs.Words.{LieInEither, Extends}
+use Rattle.std.proofs.Common.{inr, length-append, length-drop}
+use Rattle.std.proofs.lemmas.List.{append-nil, map-set, drop-map, get_or-map, get_or_default}
+use Rattle.std.proofs.lemmas.List.Elements.{All-get_or}
 
 abbrev pub no_span : Span
 no_span = record { start = 0; body = 0; trail = 0 }

@@ -1,3 +1,4 @@
+pub mod Words
 pub mod Appended
 pub mod Filled
 pub mod ItemsIn

@@ -1,10 +1,9 @@
 -- Pages that have a member and are not too long.
-use Rattle.std.proofs.Common.{◌≡◌, ◌≢◌, ℕ, ◌+◌, ◌-◌, ◌≤◌, ◌<◌, suc, List, ◌∷◌, length, take, drop, set, insert, remove, sym, subst, ap, ◌∙◌, arith, length-drop}
-use Rattle.std.proofs.lemmas.List.{length-take-le, set_split}
+use Rattle.bib_items.proofs.Words.{◌≡◌, ◌≢◌, ℕ, ◌+◌, ◌-◌, ◌≤◌, ◌<◌, suc, List, ◌∷◌, length, take, drop, set, insert, remove, sym, subst, ap, ◌∙◌, arith, length-take-le, page_at, IsGap, parted_at, all_append, all_front, all_back, are_parted, page_limit, IsPage, ArePages, IsRoom}
+use Rattle.std.proofs.Common.{length-drop}
+use Rattle.std.proofs.lemmas.List.{set_split}
 use Rattle.std.proofs.lemmas.List.Edits.{length-insert, length-remove}
-use Rattle.bib_pages.specs.Pages.{page_at, IsGap, parted_at}
-use Rattle.bib_pages.proofs.Paging.{all_append, all_front, all_back, split_pages, are_parted, gap_before, gap_after}
-use Rattle.bib_items.specs.Pages.{page_limit, IsPage, ArePages, IsRoom}
+use Rattle.bib_pages.proofs.Paging.{split_pages, gap_before, gap_after}
 
 pub record IsAround {X : Type 0} (pages : List (List X)) (p : ℕ) : Type 0 where
   pub before : ArePages (take p pages)

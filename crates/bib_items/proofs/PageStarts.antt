@@ -1,14 +1,12 @@
 -- Where the pages of a list of items begin.
-use Rattle.std.proofs.Common.{◌≡◌, ℕ, ◌+◌, ◌-◌, ◌<◌, ◌≤◌, List, [], ◌∷◌, ◌++◌, length, take, set, remove, drop, suc, ⊎_elim, refl, sym, subst, ◌∙◌, ap, arith, length-append}
+use Rattle.bib_items.proofs.Words.{◌≡◌, ℕ, ◌+◌, ◌-◌, ◌<◌, ◌≤◌, List, [], ◌∷◌, ◌++◌, length, take, set, remove, drop, suc, ⊎_elim, refl, sym, subst, ◌∙◌, ap, arith, cases_lt, get_or_append_left, take-take, take_at, length-take-le, joined, page_at, parted_at, IsOnWay, Item, weight, AreStarts}
+use Rattle.bib_items.proofs.Words.{HaveSameBefore, length-joined-more, are_parted}
+use Rattle.std.proofs.Common.{length-append}
 use Rattle.std.specs.Prelude.{slice_index_or}
 use Rattle.std.proofs.Math.Seq.{get_or-append_seam}
-use Rattle.std.proofs.lemmas.Bool.{cases_lt}
-use Rattle.std.proofs.lemmas.List.{get_or_append_left, take-take, take-set-le, take_at, get_or-take, length-take, length-take-le, length-set}
-use Rattle.bib_pages.specs.Pages.{joined, page_at, parted_at, IsOnWay}
-use Rattle.bib_items.specs.declared.list.Item.{Item}
+use Rattle.std.proofs.lemmas.List.{take-set-le, get_or-take, length-take, length-set}
 use Rattle.bib_items.specs.declared.starts.PageStart.{PageStart}
-use Rattle.bib_items.specs.Starts.{weight, BeginsWith, first_start, AreStarts, HaveSameBefore}
-use Rattle.bib_pages.proofs.Paging.{length-joined-more, are_parted}
+use Rattle.bib_items.specs.Starts.{BeginsWith, first_start}
 use Rattle.bib_items.proofs.Walks.{weight-more}
 
 pub no_starts : (pages : List (List Item)) (starts : List PageStart) → starts ≡ [] → AreStarts pages starts

@@ -1,27 +1,17 @@
 -- Marks that are added, part by part.
-use Rattle.std.proofs.Common.{◌≡◌, ℕ, zero, suc, ◌+◌, ◌≤◌, Bool, false, ◌||◌, List, [], ◌∷◌, ◌++◌, Option, Some, slice_get, length, map, take, drop, insert, refl, sym, ◌∙◌, ap, subst, All, ⊎_elim, arith}
-use Rattle.std.specs.Prelude.{Contains, Err}
-use Rattle.std.specs.List.Sorted.{IsNonDecreasing, IsBinarySearchResult}
-use Rattle.std.specs.Ordering.{nat_cmp}
+use Rattle.bib_items.proofs.Words.{◌≡◌, ℕ, zero, suc, ◌+◌, ◌≤◌, Bool, List, [], ◌∷◌, ◌++◌, Option, Some, length, map, take, drop, insert, refl, sym, ◌∙◌, ap, subst, All, ⊎_elim, arith, Contains, Err, IsBinarySearchResult, nat_cmp, AllByRecursion, list_any, cases_Bool, take_all, All-head, All-tail}
+use Rattle.bib_items.proofs.Words.{All-cons, All-take, All-drop, All-append, All-weaker, same_Some, name_limit, Text, folded, same, bytes_eq, eq-true, Part, Braced, Quoted, Digits, Macro, Value, Row, Tree, CommentTree, DefinitionTree, PreambleTree, EntryTree, value_bytes, row_bytes, opening_bytes}
+use Rattle.bib_items.proofs.Words.{tree_bytes, parts_of, values_of, Sought, test_of, LacksPart, AreMarks, mixed_all, name_mark, sought_mark, KeepsMarks, HasItemMarks, IsCovered}
+use Rattle.std.proofs.Common.{false, ◌||◌, slice_get}
+use Rattle.std.specs.List.Sorted.{IsNonDecreasing}
 use Rattle.std.proofs.lemmas.Grind.{get_or_default_zero}
-use Rattle.std.specs.List.{AllByRecursion, list_any}
-use Rattle.std.proofs.lemmas.Bool.{cases_Bool}
-use Rattle.std.proofs.lemmas.List.{take_all}
-use Rattle.std.proofs.lemmas.List.Elements.{All-head, All-tail, All-cons, All-take, All-drop, All-append, All-weaker, Contains-append_right}
+use Rattle.std.proofs.lemmas.List.Elements.{Contains-append_right}
 use Rattle.std.proofs.lemmas.List.Sorted.{IsPermutation-insert, IsNonDecreasingBy-insert, Contains-permutation, searched}
-use Rattle.std.proofs.lemmas.Option.{same_Some}
-use Rattle.bib_spec.specs.Bytes.{name_limit}
-use Rattle.bib_spec.specs.Text.{Text, folded, same}
-use Rattle.std.specs.Str.{bytes_eq}
-use Rattle.bib_spec.proofs.Names.{eq-true}
-use Rattle.bib_spec.specs.Tree.{Part, Braced, Quoted, Digits, Macro, Value, Row, Tree, CommentTree, DefinitionTree, PreambleTree, EntryTree, IsValue, IsRow, IsTree, value_bytes, row_bytes, opening_bytes, tree_bytes}
-use Rattle.bib_spec.specs.Texts.{parts_of, values_of}
+use Rattle.bib_spec.specs.Tree.{IsValue, IsRow, IsTree}
 use Rattle.bib_scan.specs.View.{View, Field, view_of, fields_of, fields_after}
-use Rattle.bib_items.specs.declared.seeking.Sought.{Sought}
 use Rattle.bib_items.specs.declared.seeking.Sought.TheVariants as sought
-use Rattle.bib_items.specs.Seeking.{test_of, LacksPart}
-use Rattle.bib_items.specs.Slots.{IsSeen, AreMarks}
-use Rattle.bib_items.specs.PartMarks.{mixed_all, name_mark, text_mark, sought_mark, KeepsMarks, HasPartMark, HasMarksOf, HasValueMarks, HasFieldMarks, HasItemMarks, IsCovered}
+use Rattle.bib_items.specs.Slots.{IsSeen}
+use Rattle.bib_items.specs.PartMarks.{text_mark, HasPartMark, HasMarksOf, HasValueMarks, HasFieldMarks}
 
 -- ---- more marks
 

@@ -1,12 +1,5 @@
 -- Items that a search passes over, page by page.
-use Rattle.std.proofs.Common.{◌≡◌, ℕ, ◌+◌, ◌-◌, ◌≤◌, ◌<◌, List, [], ◌∷◌, ◌++◌, length, take, drop, sym, subst, ◌∙◌, ap, arith, All}
-use Rattle.std.proofs.lemmas.List.Elements.{All-nil, All-cons, All-append}
-use Rattle.std.specs.List.{between}
-use Rattle.bib_items.specs.declared.list.Item.{Item}
-use Rattle.bib_items.specs.Items.{item_at}
-use Rattle.bib_pages.specs.Pages.{joined, page_at, IsOnWay}
-use Rattle.bib_pages.proofs.Paging.{length-joined-more, length-joined-take}
-use Rattle.bib_pages.proofs.Ways.{on_way_more}
+use Rattle.bib_items.proofs.Words.{◌≡◌, ℕ, ◌+◌, ◌-◌, ◌≤◌, ◌<◌, List, [], ◌∷◌, ◌++◌, length, take, drop, sym, subst, ◌∙◌, ap, arith, All, All-nil, All-cons, All-append, between, Item, item_at, joined, page_at, IsOnWay, length-joined-more, length-joined-take, on_way_more}
 use Rattle.bib_items.proofs.Appended.{between-more, in_page, between-both}
 
 module _ (Lacks : Item → Type 0) where

@@ -1,9 +1,7 @@
 -- Whole pages that come and go.
-use Rattle.std.proofs.Common.{◌≡◌, ℕ, ◌+◌, ◌-◌, ◌≤◌, ◌<◌, List, [], ◌∷◌, ◌++◌, length, take, drop, sym, subst, ◌∙◌, ap, ap₂, arith, append-nil, take-append-drop, length-append, length-drop}
-use Rattle.std.proofs.lemmas.List.{take_at, drop_at, drop-drop, length-take-le}
-use Rattle.bib_pages.specs.Pages.{joined, page_at, IsPlace, parted_at}
-use Rattle.bib_pages.proofs.Paging.{all_append, all_front, all_back, joined-append, joined-past, length-joined-more, are_parted}
-use Rattle.bib_items.specs.Pages.{IsPage, ArePages, IsSeam}
+use Rattle.bib_items.proofs.Words.{◌≡◌, ℕ, ◌+◌, ◌-◌, ◌≤◌, ◌<◌, List, [], ◌∷◌, ◌++◌, length, take, drop, sym, subst, ◌∙◌, ap, ap₂, arith, take-append-drop, take_at, drop_at, drop-drop, length-take-le, joined, page_at, IsPlace, parted_at, all_append, all_front, all_back, joined-append, joined-past}
+use Rattle.bib_items.proofs.Words.{length-joined-more, are_parted, IsPage, ArePages, IsSeam}
+use Rattle.std.proofs.Common.{append-nil, length-append, length-drop}
 use Rattle.bib_items.proofs.PageSizes.{around}
 
 -- ---- the members before a seam, and those after it

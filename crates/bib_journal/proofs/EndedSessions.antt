@@ -1,18 +1,12 @@
 -- Sessions whose last step is ended, and sessions that take back or make again all that there is.
-use Rattle.std.proofs.Common.{◌≡◌, ◌≢◌, ℕ, zero, suc, ◌+◌, ◌≤◌, Bool, true, false, List, [], ◌∷◌, ◌++◌, length, drop, if◌then◌else◌, ◌⊎◌, inl, inr, Option, Some, None, ⊎_elim, refl, sym, ◌∙◌, ap, subst, arith, replicate}
-use Rattle.std.proofs.lemmas.Bool.{cases_Bool, false≢true}
-use Rattle.std.proofs.lemmas.List.{take-replicate, length_push, length-replicate}
-use Rattle.history_spec.specs.Steps.{KeptSteps, history_of}
-use Rattle.bib_data.specs.declared.request.Request.{Request}
+use Rattle.bib_journal.proofs.Words.{◌≡◌, ◌≢◌, ℕ, zero, suc, ◌+◌, ◌≤◌, Bool, true, List, [], ◌∷◌, ◌++◌, length, drop, if◌then◌else◌, ◌⊎◌, inl, inr, Option, Some, None, ⊎_elim, refl, sym, ◌∙◌, ap, subst, arith, replicate, false≢true, take-replicate, length_push, length-replicate, KeptSteps}
+use Rattle.bib_journal.proofs.Words.{history_of, Request, SessionFault, Unopened, Refused, JournalFull, NothingToUndo, NothingToRedo, BadJournal, JournalMismatch, StepOpen, NoOpenStep, Memory, last_of, SessionState, idle, after_edit, OpenStep, NoStep, NewStep, LastStep, Opens, DoesAll, Refuses}
+use Rattle.bib_journal.proofs.Words.{StopsAt, Performs, OnDisk, ended, course_of, IsOneSession}
+use Rattle.std.proofs.Common.{false}
+use Rattle.std.proofs.lemmas.Bool.{cases_Bool}
 use Rattle.bib_data.specs.declared.request.Request.TheVariants as request
-use Rattle.bib_journal.specs.declared.fault.SessionFault.{SessionFault}
-use Rattle.bib_journal.specs.declared.fault.SessionFault.TheVariants.{Unopened, Refused, JournalFull, NothingToUndo, NothingToRedo, BadJournal, JournalMismatch, StepOpen, NoOpenStep, Memory}
-use Rattle.bib_journal.specs.Loading.{last_of}
-use Rattle.bib_journal.specs.OpenSteps.{SessionState, idle, after_edit}
-use Rattle.bib_journal.specs.declared.open_step.OpenStep.{OpenStep}
-use Rattle.bib_journal.specs.declared.open_step.OpenStep.TheVariants.{NoStep, NewStep, LastStep}
-use Rattle.bib_journal.specs.Session.{Opens, Ends, DoesAll, Refuses, StopsAt, Performs}
-use Rattle.bib_journal.specs.Runs.{OnDisk, leaves_open, ended, course_of, IsOneSession}
+use Rattle.bib_journal.specs.Session.{Ends}
+use Rattle.bib_journal.specs.Runs.{leaves_open}
 use Rattle.bib_journal.proofs.OneMoreRequest.{does_last}
 use Rattle.bib_journal.proofs.SeveralRuns.{all_move, first_file, undone_to_first, redone_to_last, last_after, length-files_after}
 

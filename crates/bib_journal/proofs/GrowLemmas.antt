@@ -1,12 +1,7 @@
 -- A step that another edit joins.
-use Rattle.std.proofs.Common.{◌≡◌, ℕ, ◌≤◌, get_or, List, length, sym, subst, ◌∙◌, ap, ap₂}
-use Rattle.bib_spec.specs.Bytes.{file_limit}
-use Rattle.bib_spec.specs.Text.{Text}
-use Rattle.bib_spec.specs.Pieces.{Piece, Fit, applied, reversed, EndBy}
-use Rattle.bib_spec.proofs.WayBack.{fit_back}
-use Rattle.history_spec.specs.Composing.{FitInTurn, composed}
-use Rattle.history_spec.specs.Steps.{IsAllowed, Leads, before}
-use Rattle.bib_steps.specs.Amending.{edited_at, LiesInside}
+use Rattle.bib_journal.proofs.Words.{◌≡◌, ℕ, ◌≤◌, get_or, List, length, sym, subst, ◌∙◌, ap, ap₂, file_limit, Text, Piece, Fit, applied, reversed, EndBy, fit_back, composed, IsAllowed, Leads, before, edited_at}
+use Rattle.history_spec.specs.Composing.{FitInTurn}
+use Rattle.bib_steps.specs.Amending.{LiesInside}
 use Rattle.history_spec.proofs.Glued.{composed-fit, composed-lead}
 use Rattle.history_spec.proofs.Near.{ends_inside}
 

@@ -1,35 +1,23 @@
 -- What renamings keep, of the files of a session.
-use Rattle.std.proofs.Common.{◌≡◌, ◌≢◌, ℕ, zero, suc, ◌&&◌, Bool, true, List, [], ◌∷◌, Option, Some, None, option_map, slice_get, take, refl, sym, ◌∙◌, ap, subst}
+use Rattle.bib_journal.proofs.Words.{◌≡◌, ◌≢◌, ℕ, zero, suc, Bool, true, List, [], ◌∷◌, Option, Some, None, take, refl, sym, ◌∙◌, ap, subst, false≢true, name_limit, Text, Reading, Reads, bytes_of, one_reading, IsAccepted, KeptSteps, history_of, Edit, SetField, DropField, AddEntry, AddMany}
+use Rattle.bib_journal.proofs.Words.{RemoveEntry, MoveEntry, RenameKey, RegenerateKeys, RenameMacro, InlineMacro, IntroduceMacro, Request, EditFault, made_base, AsksFor, OfEdit, asked_for, has_key_base, SessionState, DoesAll, OfReadings}
+use Rattle.std.proofs.Common.{◌&&◌, option_map, slice_get}
 use Rattle.std.specs.List.{list_all}
-use Rattle.std.proofs.lemmas.Bool.{false≢true, and_parts}
-use Rattle.bib_spec.specs.Bytes.{name_limit}
-use Rattle.bib_spec.specs.Text.{Text}
-use Rattle.bib_spec.specs.Reading.{Reading, Reads, bytes_of}
+use Rattle.std.proofs.lemmas.Bool.{and_parts}
 use Rattle.bib_spec.specs.Records.{Record, entries_of, entry_named, expanded}
 use Rattle.bib_spec.specs.MadeKeys.{IsKeyBase, new_keys}
-use Rattle.bib_scan.proofs.OneReading.{one_reading}
 use Rattle.edit_spec.specs.Edits as edits
-use Rattle.edit_spec.specs.Edits.{edited, IsAccepted, key_for}
+use Rattle.edit_spec.specs.Edits.{edited, key_for}
 use Rattle.edit_spec.specs.Laws.{KeepsEntries, record_with_key, no_new_key}
-use Rattle.history_spec.specs.Steps.{KeptSteps, history_of}
 use Rattle.edit_spec.proofs.RenameKey.{rename-key-keeps}
 use Rattle.edit_spec.proofs.Regenerate.{regenerate-keys-keeps, made-keys-differ, regenerating-again}
 use Rattle.edit_spec.proofs.MacroLaws.{rename-macro-keeps, inline-macro-keeps, introduce-macro-keeps}
-use Rattle.bib_data.specs.declared.edit.Edit.{Edit}
-use Rattle.bib_data.specs.declared.edit.Edit.TheVariants.{SetField, DropField, AddEntry, AddMany, RemoveEntry, MoveEntry, RenameKey, RegenerateKeys, RenameMacro, InlineMacro, IntroduceMacro}
-use Rattle.bib_data.specs.declared.request.Request.{Request}
 use Rattle.bib_data.specs.declared.request.Request.TheVariants as request
-use Rattle.bib_edit.specs.declared.fault.EditFault.{EditFault}
 use Rattle.bib_edit.specs.declared.fault.EditFault.TheVariants as edit_fault
-use Rattle.bib_keys.specs.MadeBase.{made_base}
-use Rattle.bib_edit.specs.Asking.{AsksFor, OfEdit, rename_key, regenerate_keys, rename_macro, inline_macro, introduce_macro}
+use Rattle.bib_edit.specs.Asking.{rename_key, regenerate_keys, rename_macro, inline_macro, introduce_macro}
 use Rattle.bib_edit.specs.Planning.{IsRefusal}
-use Rattle.bib_edit.proofs.AskedEdits.{asked_for}
-use Rattle.bib_edit.proofs.KeyBases.{has_key_base}
-use Rattle.bib_journal.specs.OpenSteps.{SessionState}
-use Rattle.bib_journal.specs.Session.{DoesAll}
 use Rattle.bib_journal.proofs.MadeFiles.{moved_present, made-reads, of-made}
-use Rattle.bib_journal.specs.Renaming.{Keeps, OfReadings, edit_keeps, keys_are_made_once, is_renaming, without_key, KeepsTexts, requests_keep}
+use Rattle.bib_journal.specs.Renaming.{Keeps, edit_keeps, keys_are_made_once, is_renaming, without_key, KeepsTexts, requests_keep}
 
 is_base : IsKeyBase made_base
 is_base = has_key_base (edits.RegenerateKeys 1)

@@ -1,4 +1,5 @@
 -- ---- steps that go back and forth
+pub mod Words
 pub mod Turning
 pub mod TurnableSteps
 pub mod Moves

@@ -1,16 +1,7 @@
 -- Contents, held against a file.
-use Rattle.std.proofs.Common.{◌≡◌, ◌≤◌, List, length, Option, Some, None, reverse, refl, sym, subst, ◌∙◌, ap}
+use Rattle.bib_journal.proofs.Words.{◌≡◌, ◌≤◌, List, length, Option, Some, None, reverse, refl, sym, subst, ◌∙◌, ap, file_limit, Text, Step, KeptSteps, Contents, digest_of, Opens, RefusesOpen, SessionFault, Memory, kept, FitFile, Loads, SaysOf}
 use Rattle.std.proofs.lemmas.List.{reverse-reverse}
-use Rattle.bib_spec.specs.Bytes.{file_limit}
-use Rattle.bib_spec.specs.Text.{Text}
-use Rattle.history_spec.specs.Steps.{Step, KeptSteps}
-use Rattle.journal_format.specs.Contents.{Contents, digest_of}
 use Rattle.journal_format.specs.Faults.{IsJournalOf}
-use Rattle.bib_journal.specs.Session.{Opens, RefusesOpen}
-use Rattle.bib_journal.specs.declared.fault.SessionFault.{SessionFault}
-use Rattle.bib_journal.specs.declared.fault.SessionFault.TheVariants.{Memory}
-use Rattle.bib_journal.specs.Kept.{kept}
-use Rattle.bib_journal.specs.Loading.{FitFile, Loads, SaysOf}
 
 -- the steps of the contents, undone ones last first
 pub contents_kept : (c : Contents) (file : Text) (stack : List Step) → stack ≡ reverse c.future → kept c.past file (reverse stack) ≡ kept c.past file c.future

@@ -1,23 +1,8 @@
 -- The file after an edit, by what it says.
-use Rattle.std.proofs.Common.{◌≡◌, sym, subst}
-use Rattle.bib_spec.specs.Bytes.{name_limit}
-use Rattle.bib_spec.specs.Text.{Text}
-use Rattle.bib_spec.specs.Reading.{Reading, Reads, bytes_of}
-use Rattle.bib_scan.proofs.OneReading.{one_reading}
+use Rattle.bib_journal.proofs.Words.{◌≡◌, sym, subst, name_limit, Text, Reading, Reads, bytes_of, one_reading, IsAccepted, History, history_of, Edit, made_base, AsksFor, OfEdit, has_key_base, SessionState, MovesTo, MakesEdit, OfReadings, OpenStep, NoStep, NewStep, LastStep}
 use Rattle.edit_spec.specs.Edits as edits
-use Rattle.edit_spec.specs.Edits.{edited, IsAccepted}
-use Rattle.history_spec.specs.History.{History}
-use Rattle.history_spec.specs.Steps.{history_of}
+use Rattle.edit_spec.specs.Edits.{edited}
 use Rattle.edit_spec.proofs.EditedReads.{edited-reads}
-use Rattle.bib_data.specs.declared.edit.Edit.{Edit}
-use Rattle.bib_keys.specs.MadeBase.{made_base}
-use Rattle.bib_edit.specs.Asking.{AsksFor, OfEdit}
-use Rattle.bib_edit.proofs.KeyBases.{has_key_base}
-use Rattle.bib_journal.specs.OpenSteps.{SessionState, MovesTo}
-use Rattle.bib_journal.specs.Session.{MakesEdit}
-use Rattle.bib_journal.specs.Renaming.{OfReadings}
-use Rattle.bib_journal.specs.declared.open_step.OpenStep.{OpenStep}
-use Rattle.bib_journal.specs.declared.open_step.OpenStep.TheVariants.{NoStep, NewStep, LastStep}
 
 -- whatever step is open, the present is the file of the edit
 pub moved_present : (current : OpenStep) (file : Text) (old new : History) → MovesTo current file old new → new.present ≡ file

@@ -1,34 +1,22 @@
 -- What a session keeps, before and after each of its moves.
-use Rattle.std.proofs.Common.{◌≡◌, ◌⊎◌, ℕ, ◌+◌, ◌-◌, ◌^◌, ◌≤◌, ◌<◌, List, [], ◌∷◌, ◌++◌, length, min, take, get_or, reverse, Some, sym, ◌∙◌, ap, subst, arith, refl, sum_by, inl, inr}
-use Rattle.std.specs.Prelude.{Result, Ok, Err, OnOk}
+use Rattle.bib_journal.proofs.Words.{◌≡◌, ◌⊎◌, ℕ, ◌+◌, ◌-◌, ◌^◌, ◌≤◌, ◌<◌, List, [], ◌∷◌, ◌++◌, length, min, take, get_or, reverse, Some, sym, ◌∙◌, ap, subst, arith, refl, sum_by, inl, inr, OnOk, length_push, same_from_push, take_more, Text, Piece, Fit, applied, Reading, Reads, bytes_of, Undoes}
+use Rattle.bib_journal.proofs.Words.{IsAccepted, Step, KeptSteps, with_edit, before, Leads, LeadTo, LeadOn, IsAllowed, IsSound, IsFull, Adds, GoesBack, GoesOn, history_of, step_text_len, IsOpenable, lead_to_pop, going-back-undoes, going-on-redoes, Edit, made_base, AsksFor, IsAllowedEdit}
+use Rattle.bib_journal.proofs.Words.{ArePiecesOf, asked_for, has_key_base, kept, SessionState, IsOpenIn, after_edit, new_step, JoinsLast, MakesSteps, LacksRoom, MovesTo, MakesEdit, TakesBack, MakesAgain, OpenStep, NoStep, NewStep, LastStep}
+use Rattle.std.specs.Prelude.{Result, Ok, Err}
 use Rattle.std.specs.List.{slice_get}
-use Rattle.std.proofs.lemmas.List.{length_push, same_from_push, get_or_push, reverse-append, take_all, take_more}
+use Rattle.std.proofs.lemmas.List.{get_or_push, reverse-append, take_all}
 use Rattle.std.proofs.lemmas.List.Sums.{sum_by_push}
 use Rattle.std.proofs.lemmas.Option.{slice_get_within, get_or_from_slice_get}
-use Rattle.bib_spec.specs.Text.{Text}
-use Rattle.bib_spec.specs.Pieces.{Piece, Fit, applied}
-use Rattle.bib_spec.specs.Reading.{Reading, Reads, bytes_of}
-use Rattle.history_spec.specs.History.{Undoes, Redoes}
+use Rattle.history_spec.specs.History.{Redoes}
 use Rattle.edit_spec.specs.Edits as edits
-use Rattle.edit_spec.specs.Edits.{edited, IsAccepted}
+use Rattle.edit_spec.specs.Edits.{edited}
 use Rattle.edit_spec.specs.EditChunks.{pieces_of}
-use Rattle.history_spec.specs.Steps.{Step, IsLabel, KeptSteps, with_edit, before, Leads, LeadTo, LeadOn, IsAllowed, IsSound, IsFull, IsOverlong, Adds, GoesBack, GoesOn, history_of, step_text_len}
-use Rattle.bib_spec.specs.Texts.{IsOpenable}
-use Rattle.history_spec.proofs.StepLemmas.{lead_to_pop, adding-edits, joining-amends, going-back-undoes, going-on-redoes}
+use Rattle.history_spec.specs.Steps.{IsLabel, IsOverlong}
+use Rattle.history_spec.proofs.StepLemmas.{adding-edits, joining-amends}
 use Rattle.edit_spec.proofs.EditFiles.{pieces-lead}
 use Rattle.edit_spec.proofs.EditedReads.{applied-opens}
-use Rattle.bib_data.specs.declared.edit.Edit.{Edit}
-use Rattle.bib_keys.specs.MadeBase.{made_base}
-use Rattle.bib_edit.specs.Asking.{AsksFor}
-use Rattle.bib_edit.specs.Planning.{IsAllowedEdit, ArePiecesOf}
-use Rattle.bib_edit.proofs.AskedEdits.{asked_for}
-use Rattle.bib_edit.proofs.KeyBases.{has_key_base}
 use Rattle.history_spec.specs.Composing.{AreEnds}
-use Rattle.bib_journal.specs.Kept.{kept, KnowsEnds}
-use Rattle.bib_journal.specs.OpenSteps.{SessionState, IsOpenIn, after_edit, new_step, JoinsLast, MakesSteps, LacksRoom, MovesTo}
-use Rattle.bib_journal.specs.Session.{MakesEdit, TakesBack, MakesAgain}
-use Rattle.bib_journal.specs.declared.open_step.OpenStep.{OpenStep}
-use Rattle.bib_journal.specs.declared.open_step.OpenStep.TheVariants.{NoStep, NewStep, LastStep}
+use Rattle.bib_journal.specs.Kept.{KnowsEnds}
 
 -- ---- the two stacks
 

@@ -1,10 +1,6 @@
 -- One more request that is accepted.
-use Rattle.std.proofs.Common.{◌≡◌, ℕ, ◌+◌, ◌<◌, List, [], ◌∷◌, ◌++◌, length, take, drop, get_or, replicate, Some, sym, ◌∙◌, ap, subst, refl, arith}
-use Rattle.std.proofs.lemmas.List.{take_more, drop_more, get_or-replicate, length-replicate}
-use Rattle.bib_journal.specs.OpenSteps.{SessionState}
-use Rattle.bib_data.specs.declared.request.Request.{Request}
-use Rattle.bib_journal.specs.declared.fault.SessionFault.{SessionFault}
-use Rattle.bib_journal.specs.Session.{Does, DoesAll, Refuses, StopsAt, Performs}
+use Rattle.bib_journal.proofs.Words.{◌≡◌, ℕ, ◌+◌, ◌<◌, List, [], ◌∷◌, ◌++◌, length, take, drop, get_or, replicate, Some, sym, ◌∙◌, ap, subst, refl, arith, take_more, drop_more, length-replicate, SessionState, Request, SessionFault, Does, DoesAll, Refuses, StopsAt, Performs}
+use Rattle.std.proofs.lemmas.List.{get_or-replicate}
 
 pub does_last : (requests : List Request) (request : Request) (old mid new : SessionState) → DoesAll requests old mid → Does request mid new → DoesAll (requests ++ request ∷ []) old new
 does_last [] request old mid new all does = (new, subst (λ (k : SessionState). Does request k new) all does, refl)

@@ -1,33 +1,16 @@
 -- What a session answers is determined by what it keeps and by what it is asked.
-use Rattle.std.proofs.Common.{◌≡◌, ◌≢◌, ℕ, zero, suc, ◌≤◌, ◌<◌, ◌==◌, List, [], ◌∷◌, ◌++◌, length, take, drop, if◌then◌else◌, Option, Some, None, IfSome, ◌⊎◌, inl, inr, ⊎_elim, refl, sym, ◌∙◌, ap, subst, arith}
-use Rattle.std.proofs.lemmas.List.{same_from_push, length_push}
+use Rattle.bib_journal.proofs.Words.{◌≡◌, ◌≢◌, ℕ, zero, suc, ◌≤◌, ◌<◌, List, [], ◌∷◌, ◌++◌, length, take, drop, if◌then◌else◌, Option, Some, None, IfSome, ◌⊎◌, inl, inr, ⊎_elim, refl, sym, ◌∙◌, ap, subst, arith, same_from_push, length_push, Text, Piece, applied, IsOpenable, Step, KeptSteps}
+use Rattle.bib_journal.proofs.Words.{with_edit, before, Adds, GoesBack, GoesOn, Edit, Request, made_base, EditFault, AsksFor, OfEdit, IsAllowedEdit, asked_for, SessionFault, Unopened, Refused, JournalFull, NothingToUndo, NothingToRedo, BadJournal, JournalMismatch, StepOpen, NoOpenStep, Memory}
+use Rattle.bib_journal.proofs.Words.{Saved, OpenStep, NoStep, NewStep, LastStep, Saves, SessionState, JoinsLast, MakesSteps, LacksRoom, new_step, MakesEdit, Does, DoesAll, Refuses, StopsAt, IsGood}
+use Rattle.std.proofs.Common.{◌==◌}
 use Rattle.std.proofs.lemmas.Option.{none-some, same_Some}
-use Rattle.bib_spec.specs.Text.{Text}
-use Rattle.bib_spec.specs.Pieces.{Piece, applied}
-use Rattle.bib_spec.specs.Texts.{IsOpenable}
-use Rattle.history_spec.specs.Steps.{Step, KeptSteps, with_edit, before, Adds, GoesBack, GoesOn}
 use Rattle.edit_spec.specs.Edits as edits
 use Rattle.edit_spec.specs.Edits.{rank, IsFirstRefusal}
-use Rattle.bib_data.specs.declared.edit.Edit.{Edit}
-use Rattle.bib_data.specs.declared.request.Request.{Request}
 use Rattle.bib_data.specs.declared.request.Request.TheVariants as request
-use Rattle.bib_keys.specs.MadeBase.{made_base}
-use Rattle.bib_edit.specs.declared.fault.EditFault.{EditFault}
 use Rattle.bib_edit.specs.declared.fault.EditFault.TheVariants as edit_fault
 use Rattle.bib_edit.specs.Faults.{reason_of}
-use Rattle.bib_edit.specs.Asking.{AsksFor, OfEdit}
-use Rattle.bib_edit.specs.Planning.{IsAllowedEdit}
-use Rattle.bib_edit.proofs.AskedEdits.{asked_for}
-use Rattle.bib_store.specs.Meaning.{OfReading}
-use Rattle.bib_journal.specs.declared.fault.SessionFault.{SessionFault}
-use Rattle.bib_journal.specs.declared.fault.SessionFault.TheVariants.{Unopened, Refused, JournalFull, NothingToUndo, NothingToRedo, BadJournal, JournalMismatch, StepOpen, NoOpenStep, Memory}
-use Rattle.bib_journal.specs.declared.saving.Saved.{Saved}
-use Rattle.bib_journal.specs.declared.open_step.OpenStep.{OpenStep}
-use Rattle.bib_journal.specs.declared.open_step.OpenStep.TheVariants.{NoStep, NewStep, LastStep}
-use Rattle.bib_journal.specs.Loading.{Saves}
-use Rattle.bib_journal.specs.OpenSteps.{SessionState, JoinsLast, MakesSteps, LacksRoom, new_step}
-use Rattle.bib_journal.specs.Session.{MakesEdit, Does, DoesAll, Refuses, StopsAt}
-use Rattle.bib_journal.specs.OneResult.{IsGood, one_result}
+use Rattle.bib_store.specs.Readings.{OfReading}
+use Rattle.bib_journal.specs.OneResult.{one_result}
 use Rattle.bib_journal.proofs.SeveralRuns.{does_keeps_good}
 
 -- ---- steps

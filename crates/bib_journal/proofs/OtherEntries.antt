@@ -1,17 +1,12 @@
 -- What edits that add entries or remove one keep of the others, of the files of a session.
-use Rattle.std.proofs.Common.{◌≡◌, ℕ, [], ◌∷◌, length, sym, ◌∙◌, ap, subst}
+use Rattle.bib_journal.proofs.Words.{◌≡◌, ℕ, [], ◌∷◌, length, sym, ◌∙◌, ap, subst, Text, Reading, IsAccepted, Edit, SetField, DropField, AddEntry, AddMany, RemoveEntry, MoveEntry, RenameKey, RegenerateKeys, RenameMacro, InlineMacro, IntroduceMacro, made_base, OfEdit}
 use Rattle.std.proofs.lemmas.List.{length-map}
-use Rattle.bib_spec.specs.Text.{Text}
-use Rattle.bib_spec.specs.Reading.{Reading}
 use Rattle.edit_spec.specs.Edits as edits
-use Rattle.edit_spec.specs.Edits.{edited, IsAccepted}
+use Rattle.edit_spec.specs.Edits.{edited}
 use Rattle.edit_spec.specs.OtherLaws.{KeepsOthers, same_number}
 use Rattle.edit_spec.proofs.OtherEntries.{add_entry-keeps_others, remove_entry-keeps_others}
 use Rattle.edit_spec.proofs.AddedAfter.{add_many-keeps_others}
-use Rattle.bib_data.specs.declared.edit.Edit.{Edit}
-use Rattle.bib_data.specs.declared.edit.Edit.TheVariants.{SetField, DropField, AddEntry, AddMany, RemoveEntry, MoveEntry, RenameKey, RegenerateKeys, RenameMacro, InlineMacro, IntroduceMacro}
-use Rattle.bib_keys.specs.MadeBase.{made_base}
-use Rattle.bib_edit.specs.Asking.{OfEdit, add_entry, add_many, remove_entry}
+use Rattle.bib_edit.specs.Asking.{add_entry, add_many, remove_entry}
 use Rattle.bib_edit.proofs.AskedEdits.{spelled_entry, spelled_entries}
 use Rattle.bib_edit.proofs.SpelledLists.{keys-spelled}
 use Rattle.bib_journal.specs.OtherEntries.{NoneWaits, KeepsOtherEntries, others_are_kept}

@@ -1,13 +1,8 @@
 -- Steps of a journal, gone over one by one.
-use Rattle.std.proofs.Common.{◌≡◌, ℕ, ◌+◌, ◌<◌, List, [], ◌∷◌, ◌++◌, length, drop, get_or, sym, ◌∙◌, ap, subst, refl}
-use Rattle.std.proofs.lemmas.List.{drop_more}
-use Rattle.bib_spec.specs.Text.{Text}
-use Rattle.bib_spec.specs.Pieces.{Piece, Fit, IsAscending, applied, reversed}
-use Rattle.bib_spec.specs.Texts.{IsOpenable}
-use Rattle.history_spec.specs.Steps.{Step, before, first_of, IsAllowed, Leads, LeadTo, LeadOn}
-use Rattle.bib_spec.proofs.WayBack.{fit_back, applied-reversed, reversed-reversed}
-use Rattle.history_spec.proofs.StepLemmas.{first_of-push, lead_to_push, lead_to_pop, before-made, steps-lead-back}
-use Rattle.bib_journal.specs.Loading.{last_of}
+use Rattle.bib_journal.proofs.Words.{◌≡◌, ℕ, ◌+◌, ◌<◌, List, [], ◌∷◌, ◌++◌, length, drop, get_or, sym, ◌∙◌, ap, subst, refl, drop_more, Text, Piece, Fit, applied, reversed, IsOpenable, Step, before, first_of, IsAllowed, Leads, LeadTo, LeadOn, fit_back, lead_to_pop, steps-lead-back, last_of}
+use Rattle.bib_spec.specs.Pieces.{IsAscending}
+use Rattle.bib_spec.proofs.WayBack.{applied-reversed, reversed-reversed}
+use Rattle.history_spec.proofs.StepLemmas.{first_of-push, lead_to_push, before-made}
 
 -- ---- back
 

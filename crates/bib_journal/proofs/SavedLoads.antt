@@ -1,17 +1,10 @@
 -- What a session saved is loaded, and is refused for want of memory alone.
-use Rattle.std.proofs.Common.{◌≡◌, ℕ, Option, None, Some, inl, inr, refl, sym, ◌∙◌, ap, subst, arith, rules}
-use Rattle.bib_spec.specs.Text.{Text}
-use Rattle.bib_spec.specs.Bytes.{name_limit}
-use Rattle.bib_spec.specs.Fault.{IsReadFault, too_long, no_reading, no_memory}
-use Rattle.bib_spec.specs.Texts.{IsOpenable, too_long_at}
-use Rattle.bib_scan.proofs.OneReading.{one_reading}
-use Rattle.history_spec.specs.Steps.{KeptSteps}
-use Rattle.bib_store.specs.Meaning.{IsOpenFault}
-use Rattle.journal_format.proofs.JournalLaws.{one-contents}
-use Rattle.bib_journal.specs.declared.fault.SessionFault.{SessionFault}
-use Rattle.bib_journal.specs.declared.fault.SessionFault.TheVariants.{Unopened, Refused, JournalFull, NothingToUndo, NothingToRedo, BadJournal, JournalMismatch, StepOpen, NoOpenStep, Memory}
-use Rattle.bib_journal.specs.Loading.{FitFile, Loads, contents_of}
-use Rattle.bib_journal.specs.Session.{Opens, RefusesStart, RefusesLoad, RefusesOpen}
+use Rattle.bib_journal.proofs.Words.{◌≡◌, ℕ, Option, None, Some, inl, inr, refl, sym, ◌∙◌, ap, subst, arith, rules, Text, name_limit, too_long, IsOpenable, one_reading, KeptSteps, one-contents, SessionFault, Unopened, Refused, JournalFull, NothingToUndo, NothingToRedo, BadJournal, JournalMismatch}
+use Rattle.bib_journal.proofs.Words.{StepOpen, NoOpenStep, Memory, FitFile, Loads, contents_of, Opens, RefusesOpen}
+use Rattle.bib_spec.specs.Fault.{IsReadFault, no_reading, no_memory}
+use Rattle.bib_spec.specs.Texts.{too_long_at}
+use Rattle.bib_store.specs.Readings.{IsOpenFault}
+use Rattle.bib_journal.specs.Session.{RefusesStart, RefusesLoad}
 use Rattle.bib_journal.specs.SavedLoads.{what_is_saved_is_loaded}
 use Rattle.bib_journal.proofs.SeveralRuns.{saved_loads}
 

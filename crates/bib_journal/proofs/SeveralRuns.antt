@@ -1,32 +1,17 @@
 -- Several runs, and the one session that does what they do.
-use Rattle.std.proofs.Common.{◌≡◌, ℕ, zero, suc, List, [], ◌∷◌, ◌++◌, length, Option, Some, None, refl, sym, ◌∙◌, ap, subst, arith, replicate}
+use Rattle.bib_journal.proofs.Words.{◌≡◌, ℕ, zero, suc, List, [], ◌∷◌, ◌++◌, length, Option, Some, None, refl, sym, ◌∙◌, ap, subst, arith, replicate, Text, applied, IsOpenable, History, Undoes, Step, KeptSteps, IsSound, BelongTo, history_of, first_of, bytes_of, going-back-undoes, going-on-redoes}
+use Rattle.bib_journal.proofs.Words.{Contents, digest_of, one-contents, Edit, Request, made_base, AsksFor, asked_for, Saved, contents_of, Loads, Saves, last_of, SessionState, idle, IsOpenIn, MovesTo, Opens, MakesEdit, Does, DoesAll, OpenStep, NoStep, NewStep, LastStep, IsGood, OnDisk, ended}
+use Rattle.bib_journal.proofs.Words.{course_of, IsOneSession}
 use Rattle.std.proofs.lemmas.List.{nil_from_length}
-use Rattle.bib_spec.specs.Text.{Text}
-use Rattle.bib_spec.specs.Pieces.{applied}
-use Rattle.bib_spec.specs.Texts.{IsOpenable}
-use Rattle.history_spec.specs.History.{History, Undoes, Times, LeadsAlone, IsAtFirst, files_of}
-use Rattle.history_spec.specs.Steps.{Step, KeptSteps, IsSound, BelongTo, history_of, first_of, files_before, files_after}
-use Rattle.bib_spec.specs.Reading.{bytes_of}
+use Rattle.history_spec.specs.History.{Times, LeadsAlone, IsAtFirst, files_of}
+use Rattle.history_spec.specs.Steps.{files_before, files_after}
 use Rattle.edit_spec.specs.Edits as edits
 use Rattle.edit_spec.specs.Edits.{edited}
 use Rattle.history_spec.proofs.HistoryLemmas.{undoing-all}
-use Rattle.history_spec.proofs.StepLemmas.{going-back-undoes, going-on-redoes}
-use Rattle.journal_format.specs.Contents.{Contents, digest_of}
-use Rattle.journal_format.proofs.JournalLaws.{one-contents, texts-are-journals}
-use Rattle.bib_data.specs.declared.edit.Edit.{Edit}
-use Rattle.bib_data.specs.declared.request.Request.{Request}
+use Rattle.journal_format.proofs.JournalLaws.{texts-are-journals}
 use Rattle.bib_data.specs.declared.request.Request.TheVariants as request
-use Rattle.bib_keys.specs.MadeBase.{made_base}
-use Rattle.bib_edit.specs.Asking.{AsksFor}
-use Rattle.bib_edit.proofs.AskedEdits.{asked_for}
-use Rattle.bib_journal.specs.declared.saving.Saved.{Saved}
-use Rattle.bib_journal.specs.Loading.{contents_of, Loads, Saves, last_of}
-use Rattle.bib_journal.specs.OpenSteps.{SessionState, idle, IsOpenIn, MovesTo}
-use Rattle.bib_journal.specs.Session.{started, Opens, MakesEdit, Does, DoesAll}
-use Rattle.bib_journal.specs.declared.open_step.OpenStep.{OpenStep}
-use Rattle.bib_journal.specs.declared.open_step.OpenStep.TheVariants.{NoStep, NewStep, LastStep}
-use Rattle.bib_journal.specs.OneResult.{IsGood}
-use Rattle.bib_journal.specs.Runs.{OnDisk, left, IsRun, ended, requests_of, Course, course_of, Moves, MovesAll, IsOneSession, one_opening, runs_are_one_session, sessions_are_one, undoing_all_leads_to_the_first_file, redoing_all_leads_to_the_last_file}
+use Rattle.bib_journal.specs.Session.{started}
+use Rattle.bib_journal.specs.Runs.{left, IsRun, requests_of, Course, Moves, MovesAll, one_opening, runs_are_one_session, sessions_are_one, undoing_all_leads_to_the_first_file, redoing_all_leads_to_the_last_file}
 use Rattle.bib_journal.proofs.Moves.{planned_leads, steps_move, made_open, none_open}
 
 -- ---- one history

@@ -1,22 +1,10 @@
 -- Changes that are taken back at once.
-use Rattle.std.proofs.Common.{◌≡◌, ℕ, ◌+◌, ◌-◌, ◌≤◌, ◌<◌, List, [], ◌∷◌, ◌++◌, length, take, drop, min, replicate, suc, ◌≢◌, ⊎_elim, Option, Some, None, refl, sym, ◌∙◌, ap, subst, arith}
-use Rattle.std.proofs.lemmas.List.{append-nil, append_assoc, take-append-drop, length-drop, length-replicate, take-replicate, replicate-append-replicate, drop_all}
+use Rattle.bib_journal.proofs.Words.{◌≡◌, ℕ, ◌+◌, ◌-◌, ◌≤◌, ◌<◌, List, [], ◌∷◌, ◌++◌, length, take, drop, min, replicate, suc, ◌≢◌, ⊎_elim, Option, Some, None, refl, sym, ◌∙◌, ap, subst, arith, length-replicate, take-replicate, Text, Undoes, Step, KeptSteps, before, first_of, Leads, LeadTo, IsSound}
+use Rattle.bib_journal.proofs.Words.{GoesBack, history_of, going-back-undoes, Contents, IsDigest, digest_of, journal_text, Request, SessionFault, NothingToUndo, Memory, kept, SessionState, idle, SaysOf, DoesAll, StopsAt, Performs}
+use Rattle.std.proofs.lemmas.List.{append-nil, append_assoc, take-append-drop, length-drop, replicate-append-replicate, drop_all}
 use Rattle.std.proofs.Math.Nat.{eq-or-lt_of_le}
-use Rattle.bib_spec.specs.Text.{Text}
-use Rattle.history_spec.specs.History.{Undoes}
-use Rattle.history_spec.specs.Steps.{Step, KeptSteps, before, first_of, Leads, LeadTo, IsSound, GoesBack, history_of}
-use Rattle.history_spec.proofs.StepLemmas.{going-back-undoes}
-use Rattle.journal_format.specs.Contents.{Contents, IsDigest, digest_of}
-use Rattle.journal_format.specs.JournalText.{journal_text}
-use Rattle.bib_data.specs.declared.request.Request.{Request}
 use Rattle.bib_data.specs.declared.request.Request.TheVariants as request
-use Rattle.bib_journal.specs.declared.fault.SessionFault.{SessionFault}
-use Rattle.bib_journal.specs.declared.fault.SessionFault.TheVariants.{NothingToUndo, Memory}
 use Rattle.bib_journal.specs.declared.changing.Turned.{Turned}
-use Rattle.bib_journal.specs.Kept.{kept}
-use Rattle.bib_journal.specs.OpenSteps.{SessionState, idle}
-use Rattle.bib_journal.specs.Loading.{SaysOf}
-use Rattle.bib_journal.specs.Session.{DoesAll, StopsAt, Performs}
 use Rattle.bib_journal.specs.Turns.{Turns, taken_back}
 use Rattle.bib_journal.proofs.LoadLemmas.{says_loads}
 use Rattle.bib_journal.proofs.OneMoreRequest.{does_last, repeats_up_to}

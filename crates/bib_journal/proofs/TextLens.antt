@@ -1,15 +1,11 @@
 -- How long the text of a step is after an edit joins it.
-use Rattle.std.proofs.Common.{zero, suc, ◌≡◌, ℕ, ◌+◌, ◌-◌, ◌^◌, ◌≤◌, min, get_or, List, [], ◌∷◌, ◌++◌, length, take, drop, decimal, refl, sym, ◌∙◌, ap, arith, length-append, length-drop}
+use Rattle.bib_journal.proofs.Words.{zero, suc, ◌≡◌, ℕ, ◌+◌, ◌-◌, ◌^◌, ◌≤◌, min, get_or, List, [], ◌∷◌, ◌++◌, length, take, drop, decimal, refl, sym, ◌∙◌, ap, arith, length-append, flat_map, line_feed, Text, Piece, Replacement, replaced, piece_text, pieces_text, step_text_len, HasSpot, edited_at}
+use Rattle.std.proofs.Common.{length-drop}
 use Rattle.std.proofs.lemmas.List.{length-take-le, drop-take, take-take}
 use Rattle.std.proofs.lemmas.Grind.{flat_map-append}
-use Rattle.std.specs.List.{flat_map}
-use Rattle.bib_spec.specs.Bytes.{space, line_feed}
-use Rattle.bib_spec.specs.Text.{Text}
-use Rattle.bib_spec.specs.Pieces.{Piece}
-use Rattle.history_spec.specs.Composing.{Replacement, replaced}
-use Rattle.history_spec.specs.Steps.{piece_text, pieces_text, step_text_len}
+use Rattle.bib_spec.specs.Bytes.{space}
 use Rattle.journal_format.proofs.StepTextLemmas.{step_len, pieces_len}
-use Rattle.bib_steps.specs.Amending.{HasSpot, edited, edited_at}
+use Rattle.bib_steps.specs.Amending.{edited}
 use Rattle.bib_steps.proofs.Positions.{in_three, front_kept}
 
 -- the texts of pieces, together

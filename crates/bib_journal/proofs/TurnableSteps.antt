@@ -1,12 +1,7 @@
 -- Steps that a journal may hold can be turned.
-use Rattle.std.proofs.Common.{◌≡◌, ◌+◌, ◌≤◌, List, [], ◌∷◌, ◌++◌, length, decimal, sum_by, arith, length-append}
-use Rattle.std.specs.List.{AllByRecursion, flat_map}
-use Rattle.std.proofs.lemmas.List.Elements.{All-from_recursion}
+use Rattle.bib_journal.proofs.Words.{◌≡◌, ◌+◌, ◌≤◌, List, [], ◌∷◌, ◌++◌, length, decimal, sum_by, arith, length-append, AllByRecursion, flat_map, All-from_recursion, file_limit, line_feed, Piece, Step, piece_text, pieces_text, step_text_len, AreTurnable}
 use Rattle.std.proofs.lemmas.List.Sums.{sum_by-cons}
-use Rattle.bib_spec.specs.Bytes.{file_limit, line_feed}
-use Rattle.bib_spec.specs.Pieces.{Piece}
-use Rattle.history_spec.specs.Steps.{Step, IsStep, AreSteps, HasSmallNumbers, piece_text, pieces_text, step_text, step_text_len, step_texts_limit}
-use Rattle.bib_journal.specs.Loading.{AreTurnable}
+use Rattle.history_spec.specs.Steps.{IsStep, AreSteps, HasSmallNumbers, step_text, step_texts_limit}
 
 new_in_text : (p : Piece) → length p.new ≤ length (piece_text p)
 new_in_text p = simp length-append (omega arith)

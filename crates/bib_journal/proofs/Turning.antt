@@ -1,11 +1,7 @@
 -- What going back asks of a step that leads from file to file.
-use Rattle.std.proofs.Common.{ℕ, ◌≤◌, ◌<◌, ◌^◌, List, [], ◌∷◌, length, ap, arith, sum_by, All}
-use Rattle.std.specs.List.{AllByRecursion}
-use Rattle.std.proofs.lemmas.List.Elements.{All-from_recursion}
-use Rattle.bib_spec.specs.Bytes.{file_limit}
-use Rattle.bib_spec.specs.Text.{Text}
-use Rattle.bib_spec.specs.Pieces.{Piece, Stands, end_of}
-use Rattle.history_spec.specs.Steps.{Leads}
+use Rattle.bib_journal.proofs.Words.{ℕ, ◌≤◌, ◌<◌, ◌^◌, List, [], ◌∷◌, length, ap, arith, sum_by, AllByRecursion, All-from_recursion, file_limit, Text, Piece, Leads}
+use Rattle.std.proofs.Common.{All}
+use Rattle.bib_spec.specs.Pieces.{Stands, end_of}
 use Rattle.history_spec.proofs.StepLemmas.{new_bytes_in}
 
 -- a piece that stands in a short text has a small place

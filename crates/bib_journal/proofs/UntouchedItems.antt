@@ -1,12 +1,8 @@
 -- What an edit keeps of the items that it does not touch, of the files of a session.
-use Rattle.std.proofs.Common.{◌≡◌, sym, subst}
-use Rattle.bib_spec.specs.Reading.{Reading}
-use Rattle.edit_spec.specs.Edits.{edited, IsAccepted}
+use Rattle.bib_journal.proofs.Words.{◌≡◌, sym, subst, Reading, IsAccepted, Edit, made_base, OfEdit}
+use Rattle.edit_spec.specs.Edits.{edited}
 use Rattle.edit_spec.specs.OtherLaws.{is_gone, is_changed, new_number, KeepsItems}
 use Rattle.edit_spec.proofs.UntouchedItems.{untouched_items-stay}
-use Rattle.bib_data.specs.declared.edit.Edit.{Edit}
-use Rattle.bib_keys.specs.MadeBase.{made_base}
-use Rattle.bib_edit.specs.Asking.{OfEdit}
 use Rattle.bib_journal.specs.UntouchedItems.{KeepsUntouched, items_are_kept}
 use Rattle.bib_journal.proofs.MadeFiles.{of-made}
 

@@ -8,7 +8,7 @@ use Rattle.bib_spec.specs.MadeKeys.{new_keys}
 use Rattle.edit_spec.specs.Edits.{key_for}
 use Rattle.edit_spec.specs.Laws.{KeepsEntries, KeepsMacros, KeepsCitations, KeepsCitationsByKey, SeesRenamed, SeesInlined, SeesIntroduced, AllDiffer, no_new_key}
 use Rattle.history_spec.specs.Steps.{IsSound}
-use Rattle.bib_store.specs.Meaning.{OfReading}
+use Rattle.bib_store.specs.Readings.{OfReading}
 use Rattle.bib_data.specs.declared.edit.Edit.{Edit}
 use Rattle.bib_data.specs.declared.edit.Edit.TheVariants.{RenameKey, RegenerateKeys, RenameMacro, InlineMacro, IntroduceMacro}
 use Rattle.bib_data.specs.declared.request.Request.{Request}

@@ -5,7 +5,7 @@ use Rattle.bib_spec.specs.Reading.{bytes_of}
 use Rattle.history_spec.specs.History.{History, Undoes, Redoes}
 use Rattle.history_spec.specs.Steps.{KeptSteps, history_of, first_of}
 use Rattle.edit_spec.specs.Edits.{edited}
-use Rattle.bib_store.specs.Meaning.{OfReading}
+use Rattle.bib_store.specs.Readings.{OfReading}
 use Rattle.bib_data.specs.declared.request.Request.{Request}
 use Rattle.bib_data.specs.declared.request.Request.TheVariants as request
 use Rattle.bib_keys.specs.MadeBase.{made_base}

@@ -9,7 +9,7 @@ use Rattle.history_spec.specs.History.{Undoes, Redoes}
 use Rattle.history_spec.specs.Steps.{Step, IsLabel, KeptSteps, history_of, GoesBack, GoesOn}
 use Rattle.edit_spec.specs.Edits.{edited}
 use Rattle.edit_spec.specs.EditChunks.{pieces_of}
-use Rattle.bib_store.specs.Meaning.{OfReading, IsOpenFault}
+use Rattle.bib_store.specs.Readings.{OfReading, IsOpenFault}
 use Rattle.bib_data.specs.declared.edit.Edit.{Edit}
 use Rattle.bib_edit.specs.declared.fault.EditFault.TheVariants as edit_fault
 use Rattle.bib_keys.specs.MadeBase.{made_base}

@@ -2,7 +2,7 @@
 
 ghost use Rattle.std.specs.Prelude.{◌≡◌};
 ghost use Rattle.bib_spec.specs.Text.{Text as FileText};
-ghost use Rattle.bib_store.specs.Meaning.{IsOpenFault};
+ghost use Rattle.bib_store.specs.Readings.{IsOpenFault};
 ghost use Rattle.bib_journal.specs.Faults.{fault_number, fault_place, unopened, unread, refused};
 ghost use Rattle.bib_journal.specs.Session.{RefusesStart, RefusesLoad};
 

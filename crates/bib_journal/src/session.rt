@@ -18,7 +18,7 @@ use crate::growing::grow;
 use crate::loading::{copied, fit, opened_with};
 use crate::open_step::{OpenStep, next_label, take_label};
 use crate::saving::{Saved, journal_of};
-use crate::stepping::{forget, go_back, go_on, push_within_capacity};
+use crate::stepping::{forget, go_back, go_on};
 use bib_edit::{Edit, plan};
 use bib_scan::{Seq, Text};
 use bib_store::{Database, ItemList, Piece, compose};
@@ -287,7 +287,7 @@ impl<L: ItemList> Session<L> {
         self.past.reserve(1)?;
         go_on(&mut self.database, pieces.as_slice())?;
         let label = take_label(self.alloc, &mut self.current);
-        push_within_capacity(&mut self.past, Step { label, pieces });
+        self.past.push_reserved(Step { label, pieces });
         self.past_len = len;
         self.ends.clear();
         forget(&mut self.undone);
@@ -316,7 +316,7 @@ impl<L: ItemList> Session<L> {
             pieces.as_slice(),
             self.past_len,
         );
-        push_within_capacity(&mut self.past, step);
+        self.past.push_reserved(step);
         self.past_len = grown?;
         Ok(())
     }
@@ -339,7 +339,7 @@ impl<L: ItemList> Session<L> {
             unreachable!()
         };
         self.past_len -= step_text_len(step.label.as_slice(), step.pieces.as_slice());
-        push_within_capacity(&mut self.undone, step);
+        self.undone.push_reserved(step);
         Ok(())
     }
 
@@ -361,7 +361,7 @@ impl<L: ItemList> Session<L> {
             unreachable!()
         };
         self.past_len += step_text_len(step.label.as_slice(), step.pieces.as_slice());
-        push_within_capacity(&mut self.past, step);
+        self.past.push_reserved(step);
         Ok(())
     }
 

@@ -1,25 +1,12 @@
 //! Making a step and taking it back.
 
-ghost use Rattle.std.specs.Prelude.{◌≡◌, ◌+◌, ◌<◌, ◌≤◌, ◌∷◌, ◌++◌, [], vec_len, vec_capacity, OnOk, OnErr};
+ghost use Rattle.std.specs.Prelude.{◌≡◌, [], OnOk, OnErr};
 ghost use Rattle.bib_spec.specs.Pieces.{applied};
 ghost use Rattle.history_spec.specs.Steps.{IsAllowed, Leads, before};
 
 use bib_store::{Database, ItemList, Piece, StoreFault, reverse};
 use journal_format::Step;
 use std::alloc::{AllocError, Global};
-
-/// Adds an item at the end, where there is room.
-pub(crate) fn push_within_capacity<T: Drop>(items: &mut Vec<T>, item: T)
-    requires { vec_len items.old < vec_capacity items.old }
-    ensures items { items.new.items ≡ items.old.items ++ item ∷ [] }
-    ensures len { vec_len items.new ≡ vec_len items.old + 1 }
-    ensures capacity { vec_capacity items.old ≤ vec_capacity items.new }
-{
-    match items.push(item) {
-        Ok(()) => {}
-        Err(_) => unreachable!(),
-    }
-}
 
 /// Forgets steps. It asks for no memory.
 pub(crate) fn forget(steps: &mut Vec<Step>)

@@ -1,10 +1,9 @@
 -- A candidate of a base is no longer than a key may be.
-use Rattle.std.proofs.Common.{ℕ, ◌^◌, ◌≤◌, ◌<◌, nat_lt, length, reverse, ⊎_elim, arith, length-append, ltb-true}
-use Rattle.std.proofs.lemmas.Bool.{cases_Bool, ltb-false}
+use Rattle.bib_keys.proofs.Words.{ℕ, ◌^◌, ◌≤◌, ◌<◌, length, reverse, ⊎_elim, arith, length-append, cases_Bool, name_limit, Text, letters, candidate}
+use Rattle.std.proofs.Common.{nat_lt, ltb-true}
+use Rattle.std.proofs.lemmas.Bool.{ltb-false}
 use Rattle.std.proofs.lemmas.List.{length-reverse}
-use Rattle.bib_spec.specs.Bytes.{name_limit}
-use Rattle.bib_spec.specs.Text.{Text}
-use Rattle.bib_spec.specs.MadeKeys.{letters, candidate, base_limit}
+use Rattle.bib_spec.specs.MadeKeys.{base_limit}
 use Rattle.bib_spec.proofs.FreeKeys.{lower_letters, written-letters, doubled, doubled-grows, doubled-written}
 
 few_letters : (n : ℕ) → n < 2 ^ 64 → length (letters n) ≤ 65

@@ -1,10 +1,7 @@
 -- Dangling crossrefs, entry by entry.
-use Rattle.std.proofs.Common.{◌≡◌, ℕ, ◌+◌, ◌<◌, ◌≤◌, List, [], filter_map, option_and_then, drop, length, sym, ◌∙◌, ap}
-use Rattle.std.specs.List.{cons_option}
-use Rattle.std.proofs.Math.ListN.{drop_of_length-le}
-use Rattle.bib_spec.specs.Text.{Text}
-use Rattle.bib_spec.specs.Records.{EntryTexts, dangling_text}
-use Rattle.bib_keys.specs.Dangling.{dangling_at}
+use Rattle.bib_keys.proofs.Words.{◌≡◌, ℕ, ◌+◌, ◌<◌, ◌≤◌, List, [], drop, length, sym, ◌∙◌, ap, cons_option, drop_of_length-le, Text, EntryTexts, dangling_at}
+use Rattle.std.proofs.Common.{filter_map, option_and_then}
+use Rattle.bib_spec.specs.Records.{dangling_text}
 use Rattle.bib_keys.proofs.Walks.{next-of}
 
 -- the texts of the entries from number n on

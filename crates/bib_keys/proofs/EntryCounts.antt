@@ -1,10 +1,10 @@
 -- A file has no more entries than bytes.
-use Rattle.std.proofs.Common.{◌≤◌, List, [], ◌∷◌, length, arith, length-append}
+use Rattle.bib_keys.proofs.Words.{◌≤◌, List, [], ◌∷◌, length, arith, length-append, Reading, entries_of}
 use Rattle.std.specs.List.{flat_map}
 use Rattle.bib_spec.specs.Tree.{Tree, CommentTree, DefinitionTree, PreambleTree, EntryTree, tree_bytes}
-use Rattle.bib_spec.specs.Reading.{Item, Reading, item_bytes, bytes_of}
+use Rattle.bib_spec.specs.Reading.{Item, item_bytes, bytes_of}
 use Rattle.bib_spec.specs.Texts.{Macros, months, macros_after, gathered}
-use Rattle.bib_spec.specs.Records.{entry_in, entries_of}
+use Rattle.bib_spec.specs.Records.{entry_in}
 
 few_entries : (m : Macros) (items : List Item) → length (gathered entry_in m items) ≤ length (flat_map item_bytes items)
 few_entries m [] = omega arith

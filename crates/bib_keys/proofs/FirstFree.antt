@@ -1,9 +1,8 @@
 -- The first candidate that is not taken, after some that are.
-use Rattle.std.proofs.Common.{◌≡◌, ℕ, zero, suc, ◌+◌, ◌-◌, ◌≤◌, ◌<◌, true, false, not, List, Option, Some, unwrap_or, find, length, sym, ◌∙◌, ap, ap₂, arith, append-nil, zero-add, add-zero, below_more}
-use Rattle.std.proofs.lemmas.Bool.{cond-true, cond-false, not_from_true, not_from_false}
-use Rattle.bib_spec.specs.Text.{Text}
-use Rattle.bib_spec.specs.MadeKeys.{candidate, candidates, is_taken, free_key}
-use Rattle.bib_keys.specs.TakenKeys.{AreTried}
+use Rattle.bib_keys.proofs.Words.{◌≡◌, ℕ, zero, suc, ◌+◌, ◌-◌, ◌≤◌, ◌<◌, true, false, not, List, Option, Some, length, sym, ◌∙◌, ap, ap₂, arith, append-nil, zero-add, add-zero, cond-true, cond-false, Text, candidate, is_taken, free_key, AreTried}
+use Rattle.std.proofs.Common.{unwrap_or, find, below_more}
+use Rattle.std.proofs.lemmas.Bool.{not_from_true, not_from_false}
+use Rattle.bib_spec.specs.MadeKeys.{candidates}
 
 module _ (keys : List Text) (base : Text) where
   abbrev first_of : List Text → Option Text

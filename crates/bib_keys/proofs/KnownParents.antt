@@ -1,10 +1,10 @@
 -- What is kept of parents, by their numbers.
-use Rattle.std.proofs.Common.{◌≡◌, ◌<◌, ◌≢◌, ◌∙◌, ◌⊎◌, ℕ, List, Option, None, Some, IfSome, true, false, length, set, option_map, inl, inr, sym, subst}
+use Rattle.bib_keys.proofs.Words.{◌≡◌, ◌<◌, ◌∙◌, ℕ, List, Option, None, Some, true, false, length, option_map, sym, subst, same_Some, kept_of, KeepTheSame}
+use Rattle.std.proofs.Common.{◌≢◌, ◌⊎◌, IfSome, set, inl, inr}
 use Rattle.std.proofs.Math.Dec.{eqb}
 use Rattle.std.proofs.lemmas.Bool.Decides.{eqb_tells}
 use Rattle.std.proofs.lemmas.List.{get_or-set_same, get_or-set_other}
-use Rattle.std.proofs.lemmas.Option.{none-some, same_Some}
-use Rattle.bib_keys.specs.Parents.{kept_of, KeepTheSame}
+use Rattle.std.proofs.lemmas.Option.{none-some}
 
 -- what holds of all that was kept, and of what is put there, holds of all that is kept then
 pub kept_put : {X : Type 0} (P : ℕ → X → Type 0) (old mid : List (Option X)) (n : ℕ) (x : X) → KeepTheSame old mid → n < length mid → P n x → ((k : ℕ) → IfSome (kept_of old k) (P k))

@@ -1,4 +1,5 @@
 -- ---- lists, counts and look-ups
+pub mod Words
 pub mod Walks
 pub mod EntryCounts
 pub mod LookUps

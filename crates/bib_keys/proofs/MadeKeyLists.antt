@@ -1,17 +1,11 @@
 -- Keys that are made, one after another.
-use Rattle.std.proofs.Common.{Result, Ok, Err, IfOk, OnOk, IsOkAnd, ◌≡◌, ℕ, zero, suc, ◌+◌, ◌≤◌, List, [], ◌∷◌, ◌++◌, Some, option_map, slice_get, drop, map, length, refl, sym, ◌∙◌, ap, subst, arith, append_assoc, append-nil, zero-add, add-zero}
-use Rattle.std.specs.List.{enumerate_from, AllByRecursion}
-use Rattle.std.proofs.Math.ListN.{drop_of_length-le}
-use Rattle.std.proofs.lemmas.Option.{same_Some, slice_get_within}
-use Rattle.std.proofs.lemmas.List.{length-map}
+use Rattle.bib_keys.proofs.Words.{◌≡◌, ℕ, zero, suc, ◌+◌, ◌≤◌, List, [], ◌∷◌, ◌++◌, Some, option_map, slice_get, drop, map, length, refl, sym, ◌∙◌, ap, subst, arith, append_assoc, append-nil, zero-add, add-zero, AllByRecursion, drop_of_length-le, same_Some, length-map, name_limit, Text, EntryTexts}
+use Rattle.bib_keys.proofs.Words.{record_of, free_key, made_base, AreTaken, TakenKeys}
+use Rattle.std.proofs.Common.{Result, Ok, Err, IfOk, OnOk, IsOkAnd}
+use Rattle.std.specs.List.{enumerate_from}
+use Rattle.std.proofs.lemmas.Option.{slice_get_within}
 use Rattle.std.proofs.lemmas.List.FromFn.{length-enumerate_from}
-use Rattle.bib_spec.specs.Bytes.{name_limit}
-use Rattle.bib_spec.specs.Text.{Text}
-use Rattle.bib_spec.specs.Records.{EntryTexts, record_of}
-use Rattle.bib_spec.specs.MadeKeys.{free_key, made_keys, bases}
-use Rattle.bib_keys.specs.MadeBase.{made_base}
-use Rattle.bib_keys.specs.TakenKeys.{AreTaken}
-use Rattle.bib_keys.specs.declared.taken_keys.TakenKeys.{TakenKeys}
+use Rattle.bib_spec.specs.MadeKeys.{made_keys, bases}
 use Rattle.bib_keys.proofs.Walks.{next-of}
 
 -- ---- bases

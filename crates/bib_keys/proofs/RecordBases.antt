@@ -1,18 +1,13 @@
 -- The label base of a record is made of some fields alone, and of what each of its ancestors gives to a label.
-use Rattle.std.proofs.Common.{◌≡◌, ◌∙◌, ℕ, List, [], ◌∷◌, ◌++◌, Some, fold, option_map, slice_get, refl, sym, ap}
-use Rattle.std.proofs.lemmas.Option.{same_Some}
-use Rattle.bib_spec.specs.Text.{Text}
-use Rattle.bib_spec.specs.Records.{EntryTexts, Record, record_of, parent, fields_at, missing, with_inherited}
-use Rattle.bib_spec.specs.Lineages.{lineage}
+use Rattle.bib_keys.proofs.Words.{◌≡◌, ◌∙◌, ℕ, List, [], ◌∷◌, ◌++◌, Some, option_map, slice_get, refl, sym, ap, same_Some, Text, EntryTexts, record_of, parent, lineage, parts_of, no_parts, parts_with, base_from, LabelParts, label_fields, with_parent, parts_along}
+use Rattle.std.proofs.Common.{fold}
+use Rattle.bib_spec.specs.Records.{Record, fields_at, missing, with_inherited}
 use Rattle.bib_store.specs.Choosing.{chosen}
 use Rattle.bib_store.proofs.ChosenFields.{chosen_inherited}
 use Rattle.bib_store.proofs.Inherited.{record_with, fields_along, expanded_along}
 use Rattle.bib_names.specs.Label.{Fields, label_names, label_base}
-use Rattle.bib_names.specs.LabelParts.{parts_of, no_parts, parts_with, base_from}
-use Rattle.bib_names.specs.declared.label_fields.LabelParts.{LabelParts}
 use Rattle.bib_names.proofs.LabelFields.{base_kept}
 use Rattle.bib_names.proofs.LabelPartLaws.{base_of_parts, parts_inherited, parts_alone, parts_further}
-use Rattle.bib_keys.specs.Parents.{label_fields, with_parent, parts_along}
 
 module _ (entries : List EntryTexts) where
   -- the fields, and those that are missing of entry n that labels are made of

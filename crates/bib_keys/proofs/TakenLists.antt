@@ -1,24 +1,15 @@
 -- Keys that are taken, one after another.
-use Rattle.std.proofs.Common.{◌≡◌, ℕ, suc, ◌+◌, ◌≤◌, ◌<◌, Bool, true, false, ◌||◌, List, [], ◌∷◌, ◌++◌, Option, Some, None, is_some, length, drop, reverse, map, ⊎_elim, refl, sym, ◌∙◌, ap, ap₂, subst, arith, length-append, add-zero}
-use Rattle.std.specs.List.{cons_option}
-use Rattle.std.specs.Borrow.{Bor}
-use Rattle.std.specs.Option.{option_copied}
-use Rattle.std.proofs.Math.ListN.{drop_of_length-le}
+use Rattle.bib_keys.proofs.Words.{◌≡◌, ℕ, suc, ◌+◌, ◌≤◌, ◌<◌, true, false, List, [], ◌∷◌, ◌++◌, Option, Some, None, is_some, length, drop, reverse, map, ⊎_elim, refl, sym, ◌∙◌, ap, ap₂, subst, arith, length-append, add-zero, cons_option, Bor, option_copied, drop_of_length-le, cases_Bool, cond-true}
+use Rattle.bib_keys.proofs.Words.{cond-false, same_Some, length-map, name_limit, Text, folded, letters, candidate, is_taken, value_at, IsWith, AreTaken, AreTried, TakenKeys}
+use Rattle.std.proofs.Common.{Bool, ◌||◌}
 use Rattle.std.specs.Char.{to_ascii_lowercase}
 use Rattle.std.proofs.Math.Bool.{or_comm, or-false, or-true}
-use Rattle.std.proofs.lemmas.Bool.{cases_Bool, cond-true, cond-false}
-use Rattle.std.proofs.lemmas.Option.{same_Some}
-use Rattle.std.proofs.lemmas.List.{length-map, map-append}
+use Rattle.std.proofs.lemmas.List.{map-append}
 use Rattle.std.proofs.lemmas.List.Folds.{list_any-append}
-use Rattle.bib_spec.specs.Bytes.{name_limit}
-use Rattle.bib_spec.specs.Text.{Text, folded, same}
-use Rattle.bib_spec.specs.MadeKeys.{letters, candidate, is_taken}
+use Rattle.bib_spec.specs.Text.{same}
 use Rattle.bib_spec.proofs.Names.{same-true, true-same, same_of}
-use Rattle.folded_map.specs.FoldedMap.{value_at, IsWith}
 use Rattle.bib_keys.proofs.LookUps.{copied-some}
 use Rattle.bib_keys.proofs.FirstFree.{tried-more}
-use Rattle.bib_keys.specs.TakenKeys.{AreTaken, AreTried}
-use Rattle.bib_keys.specs.declared.taken_keys.TakenKeys.{TakenKeys}
 
 -- ---- case
 

@@ -1,5 +1,5 @@
 -- A list, walked through from its front.
-use Rattle.std.proofs.Common.{◌≡◌, ℕ, ◌+◌, ◌<◌, List, ◌∷◌, Some, slice_get, get_or, drop, length, ⊎_elim, sym, ◌∙◌, ap, arith}
+use Rattle.bib_keys.proofs.Words.{◌≡◌, ℕ, ◌+◌, ◌<◌, List, ◌∷◌, Some, slice_get, get_or, drop, length, ⊎_elim, sym, ◌∙◌, ap, arith}
 use Rattle.std.proofs.lemmas.List.{drop_more}
 use Rattle.std.proofs.lemmas.Option.{slice_get_cases}
 

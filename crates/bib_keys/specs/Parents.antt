@@ -2,7 +2,7 @@
 use Rattle.std.specs.Prelude.{ℕ, ◌≡◌, List, Option, None, All, IfSome, IsSome, fold, slice_index_or}
 use Rattle.bib_spec.specs.Text.{Text}
 use Rattle.bib_spec.specs.Records.{EntryTexts, entries_of, fields_at}
-use Rattle.bib_store.specs.Meaning.{OfReading}
+use Rattle.bib_store.specs.Readings.{OfReading}
 use Rattle.bib_store.specs.Choosing.{chosen}
 use Rattle.bib_names.specs.Label.{Fields, label_names}
 use Rattle.bib_names.specs.declared.label_fields.LabelParts.{LabelParts}

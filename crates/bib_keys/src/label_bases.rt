@@ -2,7 +2,7 @@
 
 ghost use Rattle.std.specs.Prelude.{◌≡◌, ◌<◌, length, map, IfOk, OnOk};
 ghost use Rattle.bib_spec.specs.Records.{entries_of};
-ghost use Rattle.bib_store.specs.Meaning.{OfReading, IsEntryNumber};
+ghost use Rattle.bib_store.specs.Readings.{OfReading, IsEntryNumber};
 ghost use Rattle.bib_names.specs.Label.{label_names};
 ghost use Rattle.bib_names.specs.LabelParts.{parts_of, parts_with, base_from};
 ghost use Rattle.bib_keys.specs.Parents.{label_fields, KeepTheSame};
@@ -81,7 +81,7 @@ impl Parents {
     ghost use Rattle.bib_spec.specs.Text.{Text as Bytes};
     ghost use Rattle.bib_spec.specs.Records.{EntryTexts, entries_of, parent, record_of, IsDepth};
     ghost use Rattle.bib_spec.specs.Lineages.{lineage};
-    ghost use Rattle.bib_store.specs.Meaning.{OfReading, IsEntryNumber};
+    ghost use Rattle.bib_store.specs.Readings.{OfReading, IsEntryNumber};
     ghost use Rattle.bib_names.specs.Label.{label_names, label_base};
     ghost use Rattle.bib_keys.specs.Parents.{AreParents, AreKnown, kept_of, parts_along};
 

@@ -6,7 +6,7 @@ ghost use Rattle.bib_spec.specs.Bytes.{name_limit, file_limit};
 ghost use Rattle.bib_spec.specs.Text.{Text as Bytes};
 ghost use Rattle.bib_spec.specs.Records.{EntryTexts, entries_of, record_of, IsDepth};
 ghost use Rattle.bib_spec.specs.MadeKeys.{free_key, made_keys, new_keys, base_limit};
-ghost use Rattle.bib_store.specs.Meaning.{OfReading, IsEntryNumber};
+ghost use Rattle.bib_store.specs.Readings.{OfReading, IsEntryNumber};
 ghost use Rattle.bib_names.specs.Label.{label_names};
 ghost use Rattle.bib_keys.specs.MadeBase.{made_base};
 ghost use Rattle.bib_keys.specs.Parents.{AreParents};

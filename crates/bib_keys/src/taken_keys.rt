@@ -25,7 +25,7 @@ impl TakenKeys {
     ghost use Rattle.bib_spec.specs.Text.{Text as Bytes};
     ghost use Rattle.bib_spec.specs.Records.{entries_of, keys_of, dangling_texts};
     ghost use Rattle.bib_spec.specs.MadeKeys.{candidate, free_key, base_limit};
-    ghost use Rattle.bib_store.specs.Meaning.{OfReading, IsEntryNumber};
+    ghost use Rattle.bib_store.specs.Readings.{OfReading, IsEntryNumber};
     ghost use Rattle.bib_keys.specs.TakenKeys.{AreTaken, AreTried};
     ghost use Rattle.bib_keys.specs.Dangling.{dangling_at};
 

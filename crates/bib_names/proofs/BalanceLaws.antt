@@ -1,12 +1,10 @@
 -- The test of balance.
-use Rattle.std.proofs.Common.{◌≡◌, ℕ, zero, suc, ◌+◌, ◌≤◌, ◌<◌, Bool, true, false, eqb, length, take, refl, sym, ap, ◌∙◌, arith, ⊎_elim}
-use Rattle.std.specs.Prelude.{nat_le, IsTrue, count_by}
-use Rattle.std.specs.List.{range_with_len, list_all}
-use Rattle.std.proofs.lemmas.List.{take_all}
-use Rattle.std.proofs.Math.Dec.{leb, ltb}
-use Rattle.std.proofs.lemmas.Bool.{cases_Bool, eqb-true, eq-eqb, leb-true, le-leb, ltb-true, ltb-false, and_parts}
-use Rattle.bib_spec.specs.Text.{Text, opened_before, closed_before, IsBalanced}
-use Rattle.bib_names.specs.Label.{balances}
+use Rattle.bib_names.proofs.Words.{◌≡◌, ℕ, zero, suc, ◌+◌, ◌≤◌, ◌<◌, Bool, true, false, eqb, length, take, refl, sym, ap, ◌∙◌, arith, count_by, range_with_len, list_all, take_all, leb, ltb, eqb-true, eq-eqb, leb-true, le-leb, ltb-true, ltb-false, and_parts, Text, opened_before, closed_before}
+use Rattle.bib_names.proofs.Words.{balances}
+use Rattle.std.proofs.Common.{⊎_elim}
+use Rattle.std.specs.Prelude.{nat_le, IsTrue}
+use Rattle.std.proofs.lemmas.Bool.{cases_Bool}
+use Rattle.bib_spec.specs.Text.{IsBalanced}
 
 all_range : (p : ℕ → Bool) (at n : ℕ) → ((k : ℕ) → p k ≡ true) → list_all p (range_with_len at n) ≡ true
 all_range p at zero all = refl

@@ -1,11 +1,6 @@
 -- How the counts of braces change from byte to byte.
-use Rattle.std.proofs.Common.{◌≡◌, ℕ, ◌+◌, ◌≤◌, ◌<◌, Bool, true, false, cond, eqb, length, take, get_or, refl, sym, ap, arith}
-use Rattle.std.specs.Prelude.{count_by}
-use Rattle.std.proofs.lemmas.List.Sums.{count_by_more_no, count_by_more_yes}
-use Rattle.std.proofs.lemmas.Bool.{eqb-true, ne_eqb, eq-eqb}
-use Rattle.bib_spec.specs.Text.{Text, opened_before, closed_before}
-use Rattle.bib_names.specs.Places.{is_level}
-use Rattle.bib_names.specs.Scanning.{AreBraces}
+use Rattle.bib_names.proofs.Words.{◌≡◌, ℕ, ◌+◌, ◌≤◌, ◌<◌, Bool, true, false, cond, eqb, length, take, get_or, refl, sym, ap, arith, count_by, count_by_more_no, count_by_more_yes, eqb-true, eq-eqb, Text, opened_before, closed_before, is_level, AreBraces}
+use Rattle.std.proofs.lemmas.Bool.{ne_eqb}
 
 -- one where the byte is this one
 abbrev pub one_if : ℕ → ℕ → ℕ

@@ -1,13 +1,7 @@
 -- The place that decides a word's case.
-use Rattle.std.proofs.Common.{◌≡◌, ℕ, ◌+◌, ◌-◌, ◌<◌, true, false, cond, length, get_or, sym, ap, ◌∙◌}
+use Rattle.bib_names.proofs.Words.{◌≡◌, ℕ, ◌+◌, ◌-◌, ◌<◌, true, false, cond, length, get_or, sym, ap, ◌∙◌, range_with_len, slice_range, find, option_map_or, or-true, Text, begins_special, next_level, IsSpecial}
 use Rattle.std.specs.Prelude.{◌||◌}
-use Rattle.std.specs.List.{range_with_len, slice_range, find}
-use Rattle.std.specs.Option.{option_map_or}
 use Rattle.std.specs.Char.{is_ascii_lowercase}
-use Rattle.std.proofs.Math.Bool.{or-true}
-use Rattle.bib_spec.specs.Text.{Text}
-use Rattle.bib_names.specs.Special.{begins_special, next_level}
-use Rattle.bib_names.specs.Scanning.{IsSpecial}
 use Rattle.bib_names.specs.Case.{decides, is_outer_letter, is_lower_at, is_lower_special, is_lower}
 use Rattle.bib_names.proofs.SpecialLemmas.{find_here, find_past}
 

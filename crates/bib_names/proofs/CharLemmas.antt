@@ -1,16 +1,13 @@
 -- Where text characters begin and end, and which text characters follow a place.
-use Rattle.std.proofs.Common.{◌≡◌, ℕ, zero, suc, ◌+◌, ◌-◌, ◌≤◌, ◌<◌, inl, inr, Bool, true, false, cond, eqb, [], ◌∷◌, ◌++◌, length, take, drop, get_or, refl, sym, ap, ◌∙◌, arith, add-one, add-zero, below_more, subst}
-use Rattle.std.specs.Prelude.{◌&&◌, ◌||◌, not, nat_lt, count_by}
-use Rattle.std.specs.List.{prefix_len, slice_range, list_any, range_with_len}
-use Rattle.std.proofs.Math.Bool.{and-false, or-true}
-use Rattle.std.proofs.lemmas.List.{get_or-drop, drop-take, take-append-drop, take-take, length-take-le}
-use Rattle.std.proofs.lemmas.List.Sums.{sum_by-append, count_by-le-length}
-use Rattle.std.proofs.lemmas.Bool.{eqb-true, ne_eqb, eq-eqb, lt-ltb, le-ltb, not-true}
-use Rattle.bib_spec.specs.Text.{Text, opened_before, closed_before}
+use Rattle.bib_names.proofs.Words.{◌≡◌, ℕ, zero, suc, ◌+◌, ◌-◌, ◌≤◌, ◌<◌, Bool, true, false, cond, eqb, [], ◌∷◌, ◌++◌, length, take, drop, get_or, refl, sym, ap, ◌∙◌, arith, add-zero, below_more, subst, ◌&&◌, count_by, prefix_len, slice_range, list_any, range_with_len, and-false, or-true}
+use Rattle.bib_names.proofs.Words.{get_or-drop, take-append-drop, sum_by-append, count_by-le-length, eqb-true, eq-eqb, lt-ltb, le-ltb, not-true, Text, opened_before, closed_before, is_level, places_from, is_opening, begins_special, next_level, is_plain, begins_char, AreBraces, IsSpecial, chars_from}
+use Rattle.std.proofs.Common.{inl, inr, add-one}
+use Rattle.std.specs.Prelude.{◌||◌, not, nat_lt}
+use Rattle.std.proofs.lemmas.List.{drop-take, take-take, length-take-le}
+use Rattle.std.proofs.lemmas.Bool.{ne_eqb}
 use Rattle.bib_names.specs.Marks.{is_brace, goes_on}
-use Rattle.bib_names.specs.Places.{is_level, places_from}
-use Rattle.bib_names.specs.Special.{is_opening, begins_special, next_level, is_within_special, is_plain, going_on, is_joined, begins_char, char_end}
-use Rattle.bib_names.specs.Scanning.{AreBraces, IsSpecial, IsChar, IsBareBrace, IsFresh, chars_at, chars_from}
+use Rattle.bib_names.specs.Special.{is_within_special, going_on, is_joined, char_end}
+use Rattle.bib_names.specs.Scanning.{IsChar, IsBareBrace, IsFresh, chars_at}
 use Rattle.bib_names.proofs.BraceLemmas.{opened_more, closed_more}
 use Rattle.bib_names.proofs.PlaceLemmas.{places_here, places_past, places_skip_to}
 

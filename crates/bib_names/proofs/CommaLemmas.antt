@@ -1,10 +1,6 @@
 -- The commas of a name.
-use Rattle.std.proofs.Common.{◌≡◌, ℕ, ◌+◌, ◌-◌, ◌≤◌, ◌<◌, true, false, eqb, List, [], ◌∷◌, length, get_or, refl, sym, ap, ◌∙◌, arith}
-use Rattle.std.proofs.lemmas.Bool.{eqb-true, eq-eqb, and_parts}
-use Rattle.std.specs.Prelude.{Option, Some, None, is_some, IfSome}
-use Rattle.bib_spec.specs.Text.{Text, opened_before, closed_before}
-use Rattle.bib_names.specs.Places.{is_level, places_from, between}
-use Rattle.bib_names.specs.declared.name.Name.{Name}
+use Rattle.bib_names.proofs.Words.{◌≡◌, ℕ, ◌+◌, ◌-◌, ◌≤◌, ◌<◌, true, false, eqb, List, [], ◌∷◌, length, get_or, refl, sym, ap, ◌∙◌, arith, eqb-true, eq-eqb, and_parts, IfSome, Text, opened_before, closed_before, is_level, places_from, between, Name}
+use Rattle.std.specs.Prelude.{Option, Some, None, is_some}
 use Rattle.bib_names.specs.FirstComma.{commas_from, IsFirstComma}
 use Rattle.bib_names.specs.Name.{is_comma, commas, parts_of_bare, parts_of_pieces}
 use Rattle.bib_names.proofs.BraceLemmas.{one_if, opened_more, closed_more}

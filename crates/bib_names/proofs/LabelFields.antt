@@ -1,14 +1,8 @@
 -- Labels are made of some fields alone.
-use Rattle.std.proofs.Common.{◌≡◌, ◌∙◌, ◌==◌, length, Bool, true, false, cond, List, [], ◌∷◌, ◌++◌, filter, Option, Some, codes, refl, ap}
-use Rattle.std.specs.List.{find, list_any}
-use Rattle.std.specs.Option.{option_map_or}
+use Rattle.bib_names.proofs.Words.{◌≡◌, ◌∙◌, ◌==◌, length, Bool, true, false, cond, List, [], ◌∷◌, ◌++◌, refl, ap, find, list_any, option_map_or, bytes_eq, false≢true, bytes_eq-Decides, Text, same, RecordField, Fields, text_in, listed_names, letters_of_names, or_anon, label_base}
+use Rattle.std.proofs.Common.{filter, Option, Some, codes}
 use Rattle.std.specs.Char.{is_ascii_digit}
-use Rattle.std.specs.Str.{bytes_eq}
-use Rattle.std.proofs.lemmas.Bool.{false≢true}
-use Rattle.std.proofs.lemmas.Slice.Eq.{bytes_eq-Decides}
-use Rattle.bib_spec.specs.Text.{Text, same}
-use Rattle.bib_spec.specs.Records.{RecordField}
-use Rattle.bib_names.specs.Label.{Fields, text_in, listed_names, letters_of_names, or_anon, last_two, label_base, label_names}
+use Rattle.bib_names.specs.Label.{last_two, label_names}
 
 -- the fields that have one of these names
 abbrev pub chosen : List Text → Fields → Fields

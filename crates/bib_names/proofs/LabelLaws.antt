@@ -1,15 +1,12 @@
 -- The letters of numbers, and labels one after another.
-use Rattle.std.proofs.Common.{◌≡◌, ℕ, zero, suc, ◌+◌, ◌-◌, ◌*◌, ◌/◌, ◌%◌, ◌<◌, Bool, true, false, cond, List, [], ◌∷◌, ◌++◌, length, take, get_or, map, refl, sym, ap, ◌∙◌, arith, append_assoc, lit<}
+use Rattle.bib_names.proofs.Words.{◌≡◌, ℕ, zero, suc, ◌+◌, ◌-◌, ◌<◌, Bool, true, false, cond, List, [], ◌∷◌, ◌++◌, length, take, get_or, map, refl, sym, ap, ◌∙◌, arith, lit<, bytes_eq, range_with_len, count_by_more_yes, count_by_more_no, Text, letters, count_of, label_at}
+use Rattle.std.proofs.Common.{◌*◌, ◌/◌, ◌%◌, append_assoc}
 use Rattle.std.proofs.Math.Nat.{div-add-mod, mod-lt}
 use Rattle.std.proofs.lemmas.Bool.{ne_eqb}
-use Rattle.std.specs.Str.{bytes_eq}
-use Rattle.std.specs.List.{range_with_len}
 use Rattle.std.proofs.lemmas.List.{get_or_default}
-use Rattle.std.proofs.lemmas.List.Sums.{count_by_more_yes, count_by_more_no}
 use Rattle.std.proofs.lemmas.List.FromFn.{map-range_with_len_more}
-use Rattle.bib_spec.specs.Text.{Text}
-use Rattle.bib_spec.specs.MadeKeys.{next_letters, letters}
-use Rattle.bib_names.specs.Label.{count_of, label_of, label_at}
+use Rattle.bib_spec.specs.MadeKeys.{next_letters}
+use Rattle.bib_names.specs.Label.{label_of}
 
 -- ---- letters
 

@@ -1,20 +1,12 @@
 -- The prints of names for labels.
-use Rattle.std.proofs.Common.{◌≡◌, ◌∙◌, ◌++◌, ◌∷◌, [], List, Option, Some, None, Bool, true, false, cond, refl, sym, ap, ap₂, append-nil, append_assoc}
+use Rattle.bib_names.proofs.Words.{◌≡◌, ◌∙◌, ◌++◌, ◌∷◌, [], List, Bool, true, false, cond, refl, sym, ap, ap₂, append-nil, flat_map, option_map_or, Text, NameWord, initial, printed_words, finished, printed, balances, initials_template, print_of, first_three, letters_of_one, letters_printed, Pattern}
+use Rattle.bib_names.proofs.Words.{Name, Part, Von, Last, Initials, Group}
+use Rattle.std.proofs.Common.{Option, Some, None, append_assoc}
 use Rattle.std.specs.Prelude.{if◌then◌else◌}
-use Rattle.std.specs.List.{flat_map}
-use Rattle.std.specs.Option.{option_map_or}
-use Rattle.bib_spec.specs.Text.{Text}
-use Rattle.bib_names.specs.Words.{NameWord}
 use Rattle.bib_names.specs.Name.{parts_of}
-use Rattle.bib_names.specs.Printing.{initial, printed_words, finished, printed_group, printed}
-use Rattle.bib_names.specs.Label.{balances, group, initials_template, last_template, print_of, first_three, letters_of_one}
-use Rattle.bib_names.specs.LabelNames.{read_name, initials_printed, last_printed, is_one_letter, letters_printed}
-use Rattle.bib_names.specs.Template.{Pattern}
-use Rattle.bib_names.specs.declared.name.Name.{Name}
-use Rattle.bib_names.specs.declared.template.Part.{Part}
-use Rattle.bib_names.specs.declared.template.Part.TheVariants.{Von, Last}
-use Rattle.bib_names.specs.declared.template.Form.TheVariants.{Initials}
-use Rattle.bib_names.specs.declared.template.Group.{Group}
+use Rattle.bib_names.specs.Printing.{printed_group}
+use Rattle.bib_names.specs.Label.{group, last_template}
+use Rattle.bib_names.specs.LabelNames.{read_name, initials_printed, last_printed, is_one_letter}
 
 -- ---- groups of initials
 

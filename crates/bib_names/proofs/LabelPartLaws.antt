@@ -1,18 +1,13 @@
 -- What fields give to a label, part by part, also of those that inherit from others.
-use Rattle.std.proofs.Common.{◌≡◌, ◌∙◌, ◌==◌, ◌||◌, length, Bool, true, false, not, cond, List, [], ◌∷◌, ◌++◌, filter, Option, Some, None, codes, refl, sym, ap, ap₂, arith, append-nil, ne_eqb}
+use Rattle.bib_names.proofs.Words.{◌≡◌, ◌∙◌, ◌==◌, length, Bool, true, false, cond, List, [], ◌∷◌, ◌++◌, refl, sym, ap, ap₂, arith, append-nil, find, list_any, option_map_or, option_or, bytes_eq, false≢true, bytes_eq-Decides, Text, same, RecordField, Fields, text_in, listed_names, letters_of_names}
+use Rattle.bib_names.proofs.Words.{first_three, or_anon, label_base, LabelParts, base_from, parts_with}
+use Rattle.std.proofs.Common.{◌||◌, not, filter, Option, Some, None, codes, ne_eqb}
 use Rattle.std.specs.Prelude.{unwrap_or}
-use Rattle.std.specs.List.{find, list_any}
-use Rattle.std.specs.Option.{option_map_or, option_or, option_flatten}
-use Rattle.std.specs.Str.{bytes_eq}
-use Rattle.std.proofs.lemmas.Bool.{false≢true}
-use Rattle.std.proofs.lemmas.Slice.Eq.{bytes_eq-Decides}
-use Rattle.bib_spec.specs.Text.{Text, same}
-use Rattle.bib_spec.specs.Records.{RecordField, missing}
+use Rattle.std.specs.Option.{option_flatten}
+use Rattle.bib_spec.specs.Records.{missing}
 use Rattle.bib_spec.proofs.Names.{true-same}
 use Rattle.bib_spec.proofs.Missing.{bears_with}
-use Rattle.bib_names.specs.Label.{Fields, text_in, listed_names, letters_of_names, first_three, or_anon, label_base}
-use Rattle.bib_names.specs.declared.label_fields.LabelParts.{LabelParts}
-use Rattle.bib_names.specs.LabelParts.{letters_if_any, letters_in, year_digits, parts_of, base_from, has_field, given, no_parts, parts_with}
+use Rattle.bib_names.specs.LabelParts.{letters_if_any, letters_in, year_digits, parts_of, has_field, given, no_parts}
 use Rattle.bib_names.proofs.LabelFields.{find_filtered}
 
 -- ---- letters

@@ -1,4 +1,5 @@
 -- ---- tests, places and braces
+pub mod Words
 pub mod LoopSteps
 pub mod PlaceLemmas
 pub mod BraceLemmas

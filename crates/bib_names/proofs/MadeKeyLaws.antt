@@ -1,14 +1,12 @@
 -- The base of a made key is a short key.
-use Rattle.std.proofs.Common.{◌≡◌, ℕ, zero, suc, ◌≤◌, ◌<◌, Bool, true, false, cond, eqb, [], ◌∷◌, length, take, refl, ap, ◌∙◌, arith}
-use Rattle.std.specs.Prelude.{◌&&◌, filter, codes}
-use Rattle.std.specs.List.{list_all}
+use Rattle.bib_names.proofs.Words.{◌≡◌, ℕ, zero, suc, ◌≤◌, ◌<◌, Bool, true, false, cond, eqb, [], ◌∷◌, length, take, refl, ap, ◌∙◌, arith, ◌&&◌, list_all, leb, leb-true, le-leb, lt-ltb, and_parts, Text, or_anon, label_base}
+use Rattle.std.specs.Prelude.{filter, codes}
 use Rattle.std.specs.Char.{is_ascii_alphanumeric}
-use Rattle.std.proofs.Math.Dec.{leb}
-use Rattle.std.proofs.lemmas.Bool.{leb-true, le-leb, lt-ltb, ne_eqb, leb-false, lt-leb, and_parts}
+use Rattle.std.proofs.lemmas.Bool.{ne_eqb, leb-false, lt-leb}
 use Rattle.std.proofs.lemmas.List.{length-take}
-use Rattle.bib_spec.specs.Text.{Text, is_new_key_byte, is_new_key}
+use Rattle.bib_spec.specs.Text.{is_new_key_byte, is_new_key}
 use Rattle.bib_spec.specs.MadeKeys.{base_limit, IsKeyBase}
-use Rattle.bib_names.specs.Label.{or_anon, key_letters, key_base, label_base}
+use Rattle.bib_names.specs.Label.{key_letters, key_base}
 
 -- a letter or digit is greater than the space
 alphanumeric-high : (b : ℕ) → is_ascii_alphanumeric b ≡ true → 32 < b

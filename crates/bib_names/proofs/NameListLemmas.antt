@@ -1,14 +1,14 @@
 -- The names of a list that are found after some of its places are passed.
-use Rattle.std.proofs.Common.{◌≡◌, ℕ, ◌+◌, ◌-◌, ◌≤◌, ◌<◌, true, false, cond, eqb, List, [], ◌∷◌, ◌++◌, length, take, drop, get_or, refl, sym, ap, ◌∙◌, arith, map, append_assoc, ◌≢◌, lit<}
+use Rattle.bib_names.proofs.Words.{◌≡◌, ℕ, ◌+◌, ◌-◌, ◌≤◌, ◌<◌, true, false, cond, eqb, List, [], ◌∷◌, ◌++◌, length, take, drop, get_or, refl, sym, ap, ◌∙◌, arith, map, ◌≢◌, lit<, slice_range, list_all, eqb-true, ltb-true, ltb-false, and_parts, ltb, get_or-drop, take_all, length-drop, Text, same}
+use Rattle.bib_names.proofs.Words.{is_level, places_from, between}
+use Rattle.std.proofs.Common.{append_assoc}
 use Rattle.std.specs.Prelude.{codes}
-use Rattle.std.specs.List.{slice_range, list_all}
 use Rattle.std.specs.Char.{to_ascii_lowercase}
-use Rattle.std.proofs.lemmas.Bool.{eqb-true, ne_eqb, ltb-true, ltb-false, and_parts}
-use Rattle.std.proofs.Math.Dec.{ltb}
-use Rattle.std.proofs.lemmas.List.{get_or-drop, get_or_past, take_all, length-drop}
-use Rattle.bib_spec.specs.Text.{Text, is_space, same}
+use Rattle.std.proofs.lemmas.Bool.{ne_eqb}
+use Rattle.std.proofs.lemmas.List.{get_or_past}
+use Rattle.bib_spec.specs.Text.{is_space}
 use Rattle.bib_text.specs.Trimming.{trimmed}
-use Rattle.bib_names.specs.Places.{is_level, places_from, between, Stretch}
+use Rattle.bib_names.specs.Places.{Stretch}
 use Rattle.bib_names.specs.NameList.{is_and, is_cut, cuts, names_of}
 use Rattle.bib_names.proofs.PlaceLemmas.{places_here, places_past, places_none}
 

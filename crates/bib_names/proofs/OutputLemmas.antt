@@ -1,15 +1,11 @@
 -- What is known of an output, whatever is put after it.
-use Rattle.std.proofs.Common.{◌≡◌, ◌∙◌, ℕ, zero, suc, ◌+◌, ◌-◌, ◌≤◌, ◌<◌, Bool, true, false, cond, eqb, List, [], ◌∷◌, ◌++◌, length, take, get_or, filter, refl, sym, ap, arith, append_assoc, append-nil, add-zero}
-use Rattle.std.specs.Prelude.{◌&&◌, ◌||◌, not, count_by}
-use Rattle.std.specs.List.{range_with_len, prefix_len}
-use Rattle.std.proofs.Math.Bool.{and-false}
-use Rattle.std.proofs.lemmas.List.{length-append, length-map, take_all, take-append-le, get_or-append-add}
+use Rattle.bib_names.proofs.Words.{◌≡◌, ◌∙◌, ℕ, zero, suc, ◌+◌, ◌-◌, ◌≤◌, ◌<◌, Bool, true, false, cond, eqb, List, [], ◌∷◌, ◌++◌, length, take, get_or, refl, sym, ap, arith, append-nil, add-zero, ◌&&◌, count_by, range_with_len, prefix_len, and-false, length-append, take_all, sum_by-append}
+use Rattle.bib_names.proofs.Words.{count_by-le-length, eqb-true, eq-eqb, le-ltb, Text, opened_before, closed_before, is_level, places_from, begins_special, next_level, is_plain, begins_char, text_chars}
+use Rattle.std.proofs.Common.{filter, append_assoc}
+use Rattle.std.specs.Prelude.{◌||◌, not}
+use Rattle.std.proofs.lemmas.List.{length-map, take-append-le, get_or-append-add}
 use Rattle.std.proofs.lemmas.List.Elements.{filter-append}
-use Rattle.std.proofs.lemmas.List.Sums.{sum_by-append, sum_by-cons, count_by-le-length}
-use Rattle.std.proofs.lemmas.Bool.{eqb-true, eq-eqb, le-ltb}
-use Rattle.bib_spec.specs.Text.{Text, opened_before, closed_before}
-use Rattle.bib_names.specs.Places.{is_level, places_from}
-use Rattle.bib_names.specs.Special.{begins_special, next_level, is_plain, begins_char, text_chars}
+use Rattle.std.proofs.lemmas.List.Sums.{sum_by-cons}
 use Rattle.bib_names.specs.Printing.{is_short, joint}
 use Rattle.bib_names.specs.Outputs.{AreKnown, IsOutput}
 use Rattle.bib_names.proofs.BraceLemmas.{level_is}

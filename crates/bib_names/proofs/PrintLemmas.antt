@@ -1,11 +1,7 @@
 -- The words of a group, printed one after another.
-use Rattle.std.proofs.Common.{◌≡◌, ◌∙◌, ℕ, ◌+◌, ◌≤◌, ◌<◌, Bool, true, false, eqb, List, [], ◌∷◌, ◌++◌, length, drop, get_or, refl, sym, ap, arith}
-use Rattle.std.proofs.lemmas.List.{drop_more, drop_all, length-drop}
-use Rattle.std.proofs.lemmas.Bool.{eqb-true, eqb-false, eq-eqb, ne_eqb}
-use Rattle.bib_spec.specs.Text.{Text}
-use Rattle.bib_names.specs.Words.{NameWord}
-use Rattle.bib_names.specs.Printing.{shown, joined, printed_words}
-use Rattle.bib_names.specs.declared.template.Group.{Group}
+use Rattle.bib_names.proofs.Words.{◌≡◌, ◌∙◌, ℕ, ◌+◌, ◌≤◌, ◌<◌, Bool, true, false, eqb, List, [], ◌∷◌, ◌++◌, length, drop, get_or, refl, sym, ap, arith, drop_all, length-drop, eqb-true, eq-eqb, Text, NameWord, shown, joined, printed_words, Group}
+use Rattle.std.proofs.lemmas.List.{drop_more}
+use Rattle.std.proofs.lemmas.Bool.{eqb-false, ne_eqb}
 
 two_left : (words : List NameWord) (n : ℕ) (word next : NameWord) → n + 1 < length words → word ≡ get_or words n word → next ≡ get_or words (n + 1) next → drop n words ≡ word ∷ (next ∷ drop (n + 2) words)
 two_left words n word next within is also =

@@ -1,16 +1,10 @@
 -- Groups and special characters.
-use Rattle.std.proofs.Common.{◌≡◌, ◌≢◌, ℕ, suc, ◌+◌, ◌-◌, ◌≤◌, ◌<◌, Bool, true, false, cond, eqb, length, get_or, refl, sym, ap, ◌∙◌, arith, below_more}
-use Rattle.std.specs.Prelude.{◌&&◌, not}
-use Rattle.std.specs.List.{range_with_len, find}
-use Rattle.std.specs.Prelude.{Option, Some, None, IfSome, IfNone}
-use Rattle.std.proofs.Math.Dec.{ltb}
-use Rattle.std.proofs.lemmas.Bool.{eqb-true, ltb-true, ltb-false, and_parts}
+use Rattle.bib_names.proofs.Words.{◌≡◌, ◌≢◌, ℕ, suc, ◌+◌, ◌-◌, ◌≤◌, ◌<◌, Bool, true, false, cond, eqb, length, get_or, refl, sym, ap, ◌∙◌, arith, below_more, ◌&&◌, range_with_len, find, IfSome, ltb, eqb-true, ltb-true, ltb-false, and_parts, and-false, Text, opened_before, closed_before, is_level}
+use Rattle.bib_names.proofs.Words.{is_opening, begins_special, next_level, IsSpecial}
+use Rattle.std.specs.Prelude.{not}
+use Rattle.std.specs.Prelude.{Option, Some, None, IfNone}
 use Rattle.std.proofs.lemmas.Option.{IfSome_then}
-use Rattle.std.proofs.Math.Bool.{and-false}
-use Rattle.bib_spec.specs.Text.{Text, opened_before, closed_before}
-use Rattle.bib_names.specs.Places.{is_level}
-use Rattle.bib_names.specs.Special.{is_opening, begins_special, next_level}
-use Rattle.bib_names.specs.Scanning.{IsGroupEnd, IsSpecial}
+use Rattle.bib_names.specs.Scanning.{IsGroupEnd}
 use Rattle.bib_names.proofs.BraceLemmas.{one_if, opened_more, closed_more}
 use Rattle.bib_names.proofs.PlaceLemmas.{run_to, run_to_end}
 

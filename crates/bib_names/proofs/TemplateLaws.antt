@@ -1,21 +1,20 @@
 -- What is read of a template is one, and what is a template is read as that one.
-use Rattle.std.proofs.Common.{◌≡◌, ℕ, suc, ◌+◌, ◌<◌, Bool, true, false, cond, eqb, List, [], ◌∷◌, ◌++◌, length, take, drop, refl, sym, ap, ◌∙◌, subst, arith, append_assoc, append-nil, Option, Some, None}
-use Rattle.std.specs.Prelude.{◌&&◌, not, option_map, option_and_then}
-use Rattle.std.specs.List.{prefix_len, take_while, flat_map, list_all, AllByRecursion}
+use Rattle.bib_names.proofs.Words.{◌≡◌, ℕ, suc, ◌+◌, ◌<◌, Bool, true, false, cond, eqb, List, [], ◌∷◌, ◌++◌, length, take, drop, refl, sym, ap, ◌∙◌, subst, arith, append-nil, ◌&&◌, prefix_len, flat_map, list_all, take-append-drop, length-append, eqb-true, and_parts, not-true, Text, Pattern, Part}
+use Rattle.bib_names.proofs.Words.{Von, Last, Initials, Group}
+use Rattle.std.proofs.Common.{append_assoc, Option, Some, None}
+use Rattle.std.specs.Prelude.{not, option_map, option_and_then}
+use Rattle.std.specs.List.{take_while, AllByRecursion}
 use Rattle.std.specs.Char.{is_ascii_alphabetic}
-use Rattle.std.proofs.lemmas.List.{take-append-drop, length-append}
-use Rattle.std.proofs.lemmas.Bool.{eqb-true, ne_eqb, and_parts, not-true}
+use Rattle.std.proofs.lemmas.Bool.{ne_eqb}
 use Rattle.std.proofs.lemmas.Grind.{flat_map-append}
 use Rattle.std.proofs.Math.Seq.{take-append_seam, drop-append_seam}
 use Rattle.std.proofs.lemmas.Option.{none-some, same_Some}
-use Rattle.bib_spec.specs.Text.{Text, does_not_begin_with, after_run}
-use Rattle.bib_names.specs.Template.{Pattern, is_no_brace, is_ornament, letter_of, letters_of, between_bytes, group_inside, group_bytes, spelling, is_between, IsGroup, IsTemplate, OneTemplate}
+use Rattle.bib_spec.specs.Text.{does_not_begin_with, after_run}
+use Rattle.bib_names.specs.Template.{is_no_brace, is_ornament, letter_of, letters_of, between_bytes, group_inside, group_bytes, spelling, is_between, IsGroup, IsTemplate, OneTemplate}
 use Rattle.bib_names.specs.TemplateReading.{after_byte, part_named, form_at, letters_at, between_inside, between_at, group_closed, group_after_between, group_after_letters, group_after, group_at}
-use Rattle.bib_names.specs.declared.template.Part.{Part}
-use Rattle.bib_names.specs.declared.template.Part.TheVariants.{First, Von, Last, Jr}
+use Rattle.bib_names.specs.declared.template.Part.TheVariants.{First, Jr}
 use Rattle.bib_names.specs.declared.template.Form.{Form}
-use Rattle.bib_names.specs.declared.template.Form.TheVariants.{Initials, Words}
-use Rattle.bib_names.specs.declared.template.Group.{Group}
+use Rattle.bib_names.specs.declared.template.Form.TheVariants.{Words}
 use Rattle.bib_scan.proofs.RunLaws.{run_stops}
 
 -- ---- longest runs of bytes

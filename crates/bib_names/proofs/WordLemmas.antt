@@ -1,12 +1,10 @@
 -- The words of a piece that are found after some of its places are passed.
-use Rattle.std.proofs.Common.{◌≡◌, ℕ, suc, ◌+◌, ◌-◌, ◌≤◌, ◌<◌, true, false, cond, eqb, List, [], ◌∷◌, ◌++◌, length, get_or, sym, ap, ◌∙◌, arith, map, append_assoc, add-one, append-nil, below_more}
+use Rattle.bib_names.proofs.Words.{◌≡◌, ℕ, suc, ◌+◌, ◌-◌, ◌≤◌, ◌<◌, true, false, cond, eqb, List, [], ◌∷◌, ◌++◌, length, get_or, sym, ap, ◌∙◌, arith, map, append-nil, below_more, and-false, ◌&&◌, slice_range, Text, places_from, NameWord}
+use Rattle.std.proofs.Common.{append_assoc, add-one}
 use Rattle.std.proofs.lemmas.Bool.{ne_eqb}
-use Rattle.std.proofs.Math.Bool.{and-false}
-use Rattle.std.specs.Prelude.{◌&&◌, ◌||◌, not}
-use Rattle.std.specs.List.{slice_range}
-use Rattle.bib_spec.specs.Text.{Text}
-use Rattle.bib_names.specs.Places.{places_from, stretch}
-use Rattle.bib_names.specs.Words.{NameWord, is_gap, begins_word, word_end, run_start, kept_separator, sep_before, word_at, words_of}
+use Rattle.std.specs.Prelude.{◌||◌, not}
+use Rattle.bib_names.specs.Places.{stretch}
+use Rattle.bib_names.specs.Words.{is_gap, begins_word, word_end, run_start, kept_separator, sep_before, word_at, words_of}
 use Rattle.bib_names.proofs.PlaceLemmas.{places_here, places_past, places_none, places_skip_to, run_to, run_to_end}
 
 -- no gap is between start and place, so at most the front of one word is there, and all words before it are found

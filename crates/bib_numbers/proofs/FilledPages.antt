@@ -1,11 +1,12 @@
 -- Pages that have a member each, and how many members stand before each.
-use Rattle.std.proofs.Common.{◌≡◌, ℕ, zero, suc, ◌+◌, ◌-◌, ◌≤◌, ◌<◌, List, [], ◌∷◌, ◌++◌, length, map, take, drop, get_or, set, insert, remove, sym, subst, ap, ap₂, ◌∙◌, refl, arith, length-append, length-drop, zero-add}
+use Rattle.bib_numbers.proofs.Words.{◌≡◌, ℕ, zero, suc, ◌+◌, ◌-◌, ◌≤◌, ◌<◌, List, [], ◌∷◌, ◌++◌, length, map, take, drop, get_or, set, insert, remove, sym, subst, ap, ap₂, ◌∙◌, refl, arith, length-append, zero-add, length-map, joined, page_at, IsOnWay, IsPlace, IsGap, all_append, all_back}
+use Rattle.bib_numbers.proofs.Words.{joined-past, moved_from, shifted, starts, AreFilled}
+use Rattle.std.proofs.Common.{length-drop}
 use Rattle.std.specs.Prelude.{Result, Ok, Err, OnOk, OnErr, slice_get}
-use Rattle.std.proofs.lemmas.List.{length-map, length-take-le, set_split}
+use Rattle.std.proofs.lemmas.List.{length-take-le, set_split}
 use Rattle.std.proofs.lemmas.List.Edits.{length-insert}
-use Rattle.bib_pages.specs.Pages.{joined, page_at, IsOnWay, IsPlace, IsGap, parted_at}
-use Rattle.bib_pages.proofs.Paging.{all_append, all_front, all_back, split_pages, joined-past, length-joined-more, length-joined-take}
-use Rattle.bib_numbers.specs.Moves.{moved_from, shifted, starts, AreFilled}
+use Rattle.bib_pages.specs.Pages.{parted_at}
+use Rattle.bib_pages.proofs.Paging.{all_front, split_pages, length-joined-more, length-joined-take}
 use Rattle.bib_numbers.proofs.Moves.{length-moved_from}
 
 module _ {X : Type 0} where

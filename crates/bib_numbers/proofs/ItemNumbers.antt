@@ -1,10 +1,10 @@
 -- The numbers of the items of a kind, when an item comes among others, or goes.
-use Rattle.std.proofs.Common.{◌≡◌, ℕ, suc, ◌+◌, ◌≤◌, ◌<◌, ◌^◌, Bool, true, false, cond, List, [], ◌∷◌, ◌++◌, length, map, refl, sym, ◌∙◌, ap, ap₂, subst, arith, zero-add}
-use Rattle.std.specs.List.{AllByRecursion}
+use Rattle.bib_numbers.proofs.Words.{◌≡◌, ℕ, suc, ◌+◌, ◌≤◌, ◌<◌, ◌^◌, List, [], ◌∷◌, ◌++◌, length, map, refl, sym, ◌∙◌, ap, ap₂, subst, arith, zero-add, AllByRecursion, PartAt, HaveNext}
+use Rattle.std.proofs.Common.{Bool, true, false, cond}
 use Rattle.std.proofs.lemmas.Bool.{cond-true, cond-false}
 use Rattle.bib_spec.specs.Tree.{Tree}
 use Rattle.bib_spec.specs.Reading.{Item}
-use Rattle.bib_numbers.specs.Numbers.{PartAt, HaveNext, numbered, numbers}
+use Rattle.bib_numbers.specs.Numbers.{numbered, numbers}
 
 module _ (test : Tree → Bool) where
   first_number : (k : ℕ) (x : Item) (xs : List Item) → numbers test k (x ∷ xs) ≡ cond (test x.tree) (k ∷ numbers test (k + 1) xs) (numbers test (k + 1) xs)

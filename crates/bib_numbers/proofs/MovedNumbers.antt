@@ -1,12 +1,9 @@
 -- Numbers in order, when one comes or goes and those after it are moved.
-use Rattle.std.proofs.Common.{◌≡◌, ℕ, zero, suc, ◌+◌, ◌-◌, ◌≤◌, ◌<◌, ◌^◌, List, [], ◌∷◌, ◌++◌, length, map, take, drop, get_or, insert, remove, sym, subst, ◌∙◌, ap, ap₂, ⊎_elim, refl, arith, length-append, append_assoc, zero-add}
-use Rattle.std.specs.List.{AllByRecursion}
+use Rattle.bib_numbers.proofs.Words.{◌≡◌, ℕ, zero, suc, ◌+◌, ◌-◌, ◌≤◌, ◌<◌, ◌^◌, List, [], ◌∷◌, ◌++◌, length, map, take, drop, get_or, insert, remove, sym, subst, ◌∙◌, ap, ap₂, refl, arith, length-append, append_assoc, zero-add, AllByRecursion, all_append, all_back, IsPartitionedBy}
+use Rattle.bib_numbers.proofs.Words.{IsPartitionPoint, lt-ltb, ltb-true, Ascend, rank_in, PartAt, HasParts, HaveNext, plus, moved_from}
+use Rattle.std.proofs.Common.{⊎_elim}
 use Rattle.std.specs.Prelude.{◌≢◌, nat_lt, max, true, false, Bool, cond, filter}
-use Rattle.bib_pages.proofs.Paging.{all_append, all_back}
-use Rattle.std.specs.List.Sorted.{IsPartitionedBy, IsPartitionPoint}
-use Rattle.std.proofs.lemmas.Bool.{cases_lt, lt-ltb, le-ltb, ltb-true, both_ways}
-use Rattle.bib_numbers.specs.Numbers.{Ascend, rank_in, PartAt, HasParts, HaveNext}
-use Rattle.bib_numbers.specs.Moves.{plus, moved_from}
+use Rattle.std.proofs.lemmas.Bool.{cases_lt, le-ltb, both_ways}
 
 -- ---- parts
 

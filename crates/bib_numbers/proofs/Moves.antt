@@ -1,10 +1,9 @@
 -- Members that are moved, in one list and in pages.
-use Rattle.std.proofs.Common.{◌≡◌, ℕ, zero, suc, ◌+◌, ◌-◌, ◌%◌, ◌≤◌, ◌<◌, ◌^◌, Bool, true, false, List, [], ◌∷◌, ◌++◌, length, map, take, drop, get_or, set, insert, remove, sym, subst, ◌∙◌, ap, ap₂, refl, arith, length-append, zero-add}
-use Rattle.std.specs.List.{take-map, drop-map}
-use Rattle.std.specs.List.Sorted.{IsPartitionedBy, IsPartitionPoint}
-use Rattle.std.proofs.lemmas.List.{map-append, length-map, get_or-map}
-use Rattle.bib_pages.specs.Pages.{joined, page_at}
-use Rattle.bib_numbers.specs.Moves.{plus, moved_from, shifted}
+use Rattle.bib_numbers.proofs.Words.{◌≡◌, ℕ, zero, suc, ◌+◌, ◌-◌, ◌%◌, ◌≤◌, ◌<◌, ◌^◌, List, [], ◌∷◌, ◌++◌, length, map, take, drop, get_or, set, insert, remove, sym, subst, ◌∙◌, ap, ap₂, refl, arith, length-append, zero-add, take-map, IsPartitionedBy, IsPartitionPoint, length-map, joined, page_at}
+use Rattle.bib_numbers.proofs.Words.{plus, moved_from, shifted}
+use Rattle.std.proofs.Common.{Bool, true, false}
+use Rattle.std.specs.List.{drop-map}
+use Rattle.std.proofs.lemmas.List.{map-append, get_or-map}
 
 -- ---- one after another
 

@@ -1,8 +1,6 @@
 -- Labels in order, when one comes or goes.
-use Rattle.std.proofs.Common.{◌≡◌, ℕ, zero, suc, ◌≤◌, ◌<◌, List, [], ◌∷◌, ◌++◌, length, get_or, insert, remove, refl, ap, arith}
-use Rattle.std.specs.List.{AllByRecursion}
-use Rattle.bib_numbers.specs.Labels.{label_limit, Rise, AreLabels}
-use Rattle.bib_numbers.specs.Numbers.{Ascend, rank_in}
+use Rattle.bib_numbers.proofs.Words.{◌≡◌, ℕ, zero, suc, ◌≤◌, ◌<◌, List, [], ◌∷◌, ◌++◌, length, get_or, insert, remove, refl, ap, arith, AllByRecursion, AreLabels, Ascend, rank_in}
+use Rattle.bib_numbers.specs.Labels.{label_limit, Rise}
 use Rattle.bib_numbers.proofs.MovedNumbers.{all_removed, rank_of}
 
 -- numbers that rise ascend

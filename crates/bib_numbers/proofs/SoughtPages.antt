@@ -1,13 +1,9 @@
 -- The page in which the numbers reach a number.
-use Rattle.std.proofs.Common.{◌≡◌, ℕ, zero, suc, ◌+◌, ◌-◌, ◌≤◌, ◌<◌, true, false, List, [], ◌∷◌, ◌++◌, length, take, drop, get_or, sym, subst, ◌∙◌, ap, arith, append_assoc, append-nil}
-use Rattle.std.specs.List.{AllByRecursion}
-use Rattle.std.specs.List.Sorted.{IsPartitionedBy, IsPartitionPoint}
-use Rattle.std.proofs.lemmas.Bool.{lt-ltb, ltb-true, ltb-false}
-use Rattle.std.proofs.lemmas.List.{get_or_default}
-use Rattle.bib_pages.specs.Pages.{joined, page_at}
-use Rattle.bib_pages.proofs.Paging.{joined-split, joined-more, joined-past}
-use Rattle.bib_numbers.specs.Numbers.{Ascend, rank_in}
-use Rattle.bib_numbers.specs.Moves.{AreFilled, ends_below}
+use Rattle.bib_numbers.proofs.Words.{◌≡◌, ℕ, zero, suc, ◌+◌, ◌-◌, ◌≤◌, ◌<◌, List, [], ◌∷◌, ◌++◌, length, take, drop, get_or, sym, subst, ◌∙◌, ap, arith, append_assoc, AllByRecursion, IsPartitionedBy, IsPartitionPoint, lt-ltb, ltb-true, get_or_default, joined, page_at, joined-past, Ascend, rank_in}
+use Rattle.bib_numbers.proofs.Words.{AreFilled, ends_below}
+use Rattle.std.proofs.Common.{true, false, append-nil}
+use Rattle.std.proofs.lemmas.Bool.{ltb-false}
+use Rattle.bib_pages.proofs.Paging.{joined-split, joined-more}
 use Rattle.bib_numbers.proofs.FilledPages.{around}
 use Rattle.bib_numbers.proofs.MovedNumbers.{ascend_parts, rank-append, rank_all, rank_none}
 

@@ -4,7 +4,7 @@ ghost use Rattle.std.specs.Prelude.{◌≡◌, ◌<◌, ◌≤◌, ℕ, suc, [],
 ghost use Rattle.bib_numbers.specs.Labels.{label_limit, AreLabels};
 ghost use Rattle.bib_numbers.specs.Numbers.{rank_in};
 
-use crate::paged::Paged;
+use crate::number_pages::NumberPages;
 use std::alloc::{AllocError, Global};
 use std::marker::Model;
 
@@ -18,7 +18,7 @@ const SHARE: usize = 1 << 12;
 /// come or go. A label that comes or goes takes a few steps for each page of up to 512 labels.
 #[derive(Drop)]
 pub struct Labels {
-    list: Paged,
+    list: NumberPages,
     // the label that came last, beside which the next one is likely to come
     last: usize,
 }
@@ -41,7 +41,7 @@ impl Labels {
         ensures labels { AreLabels result }
     {
         Labels {
-            list: Paged::new(alloc),
+            list: NumberPages::new(alloc),
             last: 0,
         }
     }

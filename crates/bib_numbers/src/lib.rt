@@ -7,8 +7,8 @@ mod labels;
 mod leaf;
 mod leaves;
 mod moving;
+mod number_pages;
 mod numbers;
-mod paged;
 mod starts;
 
 pub use labels::Labels;

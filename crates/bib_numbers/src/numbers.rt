@@ -3,7 +3,7 @@
 ghost use Rattle.std.specs.Prelude.{◌≡◌, ◌≤◌, ◌<◌, ◌+◌, ◌^◌, ℕ, List, length};
 ghost use Rattle.bib_numbers.specs.Numbers.{PartAt, HasParts, HaveNext};
 
-use crate::paged::Paged;
+use crate::number_pages::NumberPages;
 use std::alloc::{AllocError, Global};
 use std::marker::Model;
 
@@ -11,7 +11,7 @@ use std::marker::Model;
 /// items after it change. That takes one step for each page of up to 512 numbers, and some for the numbers of one page.
 #[derive(Drop)]
 pub struct Numbers {
-    list: Paged,
+    list: NumberPages,
 }
 
 impl Model for Numbers {
@@ -36,7 +36,7 @@ impl Numbers {
         ensures { result ≡ [] }
     {
         Numbers {
-            list: Paged::new(alloc),
+            list: NumberPages::new(alloc),
         }
     }
 

@@ -1,15 +1,9 @@
 -- Ids that ascend.
-use Rattle.std.proofs.Common.{◌≡◌, ◌≢◌, ℕ, zero, suc, ◌-◌, ◌≤◌, ◌<◌, List, [], ◌∷◌, ◌++◌, length, take, drop, get_or, remove, ⊎_elim, refl, subst, arith}
-use Rattle.std.specs.Prelude.{Result, Ok, Err}
-use Rattle.std.specs.List.{AllByRecursion}
+use Rattle.bib_order.proofs.Words.{◌≡◌, ◌≢◌, ℕ, zero, suc, ◌-◌, ◌≤◌, ◌<◌, List, [], ◌∷◌, ◌++◌, length, take, drop, get_or, remove, ⊎_elim, refl, subst, arith, Result, Ok, Err, AllByRecursion, IfNone, cases_lt, Lacks, IsDistinct, Ascend, all_append, all_front, all_back}
 use Rattle.std.specs.List.Sorted.{IsBinarySearchResult}
-use Rattle.std.specs.Option.{IfNone}
 use Rattle.std.specs.Ordering.{nat_cmp}
 use Rattle.std.specs.Result.{result_ok}
-use Rattle.std.proofs.lemmas.Bool.{cases_lt}
 use Rattle.std.proofs.lemmas.List.Sorted.{searched}
-use Rattle.bib_order.specs.Orders.{Lacks, IsDistinct, Ascend}
-use Rattle.bib_pages.proofs.Paging.{all_append, all_front, all_back}
 use Rattle.bib_order.proofs.Ordering.{split_ids}
 
 -- they are distinct

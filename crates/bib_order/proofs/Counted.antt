@@ -1,15 +1,11 @@
 -- Ids that are their own numbers.
-use Rattle.std.proofs.Common.{◌≡◌, ℕ, zero, suc, ◌+◌, ◌≤◌, ◌<◌, List, [], ◌∷◌, ◌++◌, length, get_or, ◌-◌, Some, insert, remove, refl, subst, sym, ◌∙◌, ap, ⊎_elim, arith, length-append, append-nil}
+use Rattle.bib_order.proofs.Words.{◌≡◌, ℕ, zero, suc, ◌+◌, ◌≤◌, ◌<◌, List, [], ◌∷◌, ◌++◌, length, get_or, ◌-◌, Some, insert, remove, refl, subst, sym, ◌∙◌, ap, ⊎_elim, arith, length-append, slice_get, AllByRecursion, cases_lt, get_or_append_left, get_or-append_right, slice_get-get_or, all_append}
+use Rattle.bib_order.proofs.Words.{Lacks, Ascend}
+use Rattle.std.proofs.Common.{append-nil}
 use Rattle.std.specs.Prelude.{vec_len, vec_capacity}
 use Rattle.std.specs.declared.vec.Vec.{Vec}
-use Rattle.std.specs.List.{slice_get, AllByRecursion}
 use Rattle.std.proofs.Math.Seq.{get_or-append_seam}
-use Rattle.std.proofs.lemmas.Bool.{cases_lt}
-use Rattle.std.proofs.lemmas.List.{get_or_append_left, get_or-append_right}
 use Rattle.std.proofs.lemmas.List.Edits.{insert_end, remove-append_left, remove-append_right}
-use Rattle.std.proofs.lemmas.Option.{slice_get-get_or}
-use Rattle.bib_pages.proofs.Paging.{all_append}
-use Rattle.bib_order.specs.Orders.{Lacks, Ascend}
 use Rattle.bib_order.specs.Counted.{counted}
 use Rattle.bib_order.proofs.Ascending.{ascend_more, below_lacks}
 use Rattle.bib_order.proofs.Ordering.{lacks_append}

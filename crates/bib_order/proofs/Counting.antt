@@ -1,15 +1,10 @@
 -- How many of the ids that pass a test stand before a number.
-use Rattle.std.proofs.Common.{◌≡◌, ◌≢◌, ℕ, ◌-◌, ◌≤◌, ◌<◌, Bool, true, false, zero, suc, List, [], ◌∷◌, ◌++◌, length, take, drop, get_or, Some, sym, subst, ⊎_elim, ◌∙◌, ap, refl, arith, take-append-drop, length-append}
+use Rattle.bib_order.proofs.Words.{◌≡◌, ◌≢◌, ℕ, ◌-◌, ◌≤◌, ◌<◌, Bool, true, false, zero, suc, List, [], ◌∷◌, ◌++◌, length, take, drop, get_or, Some, sym, subst, ⊎_elim, ◌∙◌, ap, refl, arith, take-append-drop, length-append, slice_get, AllByRecursion, cases_Bool, cases_lt, cond-true, cond-false}
+use Rattle.bib_order.proofs.Words.{get_or_append_left, get_or-append_right, length-filter, none-some, get_or_from_slice_get, Lacks, IsDistinct, is_among, holders, before, all_front, all_back}
 use Rattle.std.specs.Prelude.{◌==◌}
-use Rattle.std.specs.List.{slice_get, AllByRecursion}
 use Rattle.std.specs.List.Sorted.{IsPartitionedBy, IsPartitionPoint}
-use Rattle.std.proofs.lemmas.Bool.{both_ways, cases_Bool, cases_lt, cond-true, cond-false, eq-eqb, ne_eqb}
-use Rattle.std.proofs.lemmas.List.{get_or_append_left, get_or-append_right}
-use Rattle.std.proofs.lemmas.List.Sums.{length-filter}
-use Rattle.std.proofs.lemmas.Option.{none-some, same_Some, get_or_from_slice_get}
-use Rattle.bib_order.specs.Orders.{Lacks, IsDistinct, is_among}
-use Rattle.bib_order.specs.Holders.{holders, before}
-use Rattle.bib_pages.proofs.Paging.{all_front, all_back}
+use Rattle.std.proofs.lemmas.Bool.{both_ways, eq-eqb, ne_eqb}
+use Rattle.std.proofs.lemmas.Option.{same_Some}
 use Rattle.bib_order.proofs.Following.{holders-split}
 
 -- ---- among some

@@ -1,11 +1,10 @@
 -- Ids that pass a test follow the order of all.
-use Rattle.std.proofs.Common.{◌≡◌, ℕ, ◌+◌, ◌≤◌, ◌<◌, Bool, true, false, suc, List, ◌∷◌, ◌++◌, length, take, drop, filter, get_or, insert, remove, sym, ◌∙◌, ap, ap₂, refl, arith, take-append-drop}
+use Rattle.bib_order.proofs.Words.{◌≡◌, ℕ, ◌+◌, ◌≤◌, ◌<◌, Bool, true, false, suc, List, ◌∷◌, ◌++◌, length, take, drop, get_or, insert, remove, sym, ◌∙◌, ap, ap₂, refl, arith, take-append-drop, cond-true, cond-false, length-filter, holders, before}
+use Rattle.std.proofs.Common.{filter}
 use Rattle.std.specs.Prelude.{slice_index}
-use Rattle.std.proofs.lemmas.Bool.{cond-true, cond-false}
 use Rattle.std.proofs.lemmas.List.{take_at, drop_at, drop-drop}
 use Rattle.std.proofs.lemmas.List.Elements.{filter-append}
-use Rattle.std.proofs.lemmas.List.Sums.{length-filter}
-use Rattle.bib_order.specs.Holders.{holders, before, FollowOrder}
+use Rattle.bib_order.specs.Holders.{FollowOrder}
 use Rattle.bib_order.proofs.Ordering.{split_ids}
 
 -- those before number n, and those from there on

@@ -1,8 +1,7 @@
 -- The ids that are kept.
+use Rattle.bib_order.proofs.Words.{IsDistinct, ids_of, AreKept}
 use Rattle.bib_order.specs.declared.order.Ids.{Ids}
 use Rattle.bib_order.specs.declared.order.Ids.TheVariants.{Listed, Paged}
-use Rattle.bib_order.specs.Orders.{IsDistinct}
-use Rattle.bib_order.specs.Ids.{ids_of, AreKept}
 use Rattle.bib_order.proofs.Ascending.{ascend_distinct}
 
 pub kept_distinct : (ids : Ids) → AreKept ids → IsDistinct (ids_of ids)

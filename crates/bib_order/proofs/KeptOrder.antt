@@ -1,7 +1,8 @@
 -- Ids keep their order while others come and go.
-use Rattle.std.proofs.Common.{◌≡◌, ◌≢◌, ℕ, ◌+◌, ◌-◌, ◌≤◌, ◌<◌, Bool, true, false, List, length, insert, remove, nat_lt, cond, ⊎_elim, ◌∙◌, ap, arith}
+use Rattle.bib_order.proofs.Words.{◌≡◌, ◌≢◌, ℕ, ◌+◌, ◌-◌, ◌≤◌, ◌<◌, Bool, true, false, List, length, insert, remove, ⊎_elim, ◌∙◌, ap, arith, cases_Bool, cond-true, cond-false}
+use Rattle.std.proofs.Common.{nat_lt, cond}
 use Rattle.std.specs.Prelude.{slice_index}
-use Rattle.std.proofs.lemmas.Bool.{cases_Bool, cond-true, cond-false, ltb-true, ltb-false}
+use Rattle.std.proofs.lemmas.Bool.{ltb-true, ltb-false}
 use Rattle.std.proofs.lemmas.List.Edits.{get_or-insert_below, get_or-insert_above, get_or-remove_below, get_or-remove_above}
 use Rattle.bib_order.specs.Orders.{after_insert, after_remove, KeepsOrder}
 

@@ -1,3 +1,4 @@
+pub mod Words
 pub mod Ordering
 pub mod KeptOrder
 pub mod Following

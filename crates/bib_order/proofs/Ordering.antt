@@ -1,14 +1,14 @@
 -- Distinct ids, and which of them are in use.
-use Rattle.std.proofs.Common.{◌≡◌, ◌≢◌, ℕ, ◌+◌, ◌-◌, ◌≤◌, ◌<◌, ◌^◌, suc, List, [], ◌∷◌, ◌++◌, length, take, drop, get_or, set, insert, remove, Option, Some, None, refl, sym, subst, ◌∙◌, ap, ap₂, ⊎_elim, arith, take-append-drop, length-append}
-use Rattle.std.specs.Prelude.{Result, Ok, Err, IfOk, OnErr}
-use Rattle.std.specs.List.{slice_get, AllByRecursion}
+use Rattle.bib_order.proofs.Words.{◌≡◌, ◌≢◌, ℕ, ◌+◌, ◌-◌, ◌≤◌, ◌<◌, ◌^◌, suc, List, [], ◌∷◌, ◌++◌, length, take, drop, get_or, set, insert, remove, Some, refl, sym, subst, ◌∙◌, ap, ap₂, ⊎_elim, arith, take-append-drop, length-append, Result, Ok, Err, slice_get, AllByRecursion, get_or_append_left}
+use Rattle.bib_order.proofs.Words.{none-some, slice_get-get_or, get_or_from_slice_get, joined, page_at, IsPlace, Lacks, IsDistinct, IsTold, IsOrdered, all_append, all_front, all_back, length-joined-more, read_at}
+use Rattle.std.proofs.Common.{Option, None}
+use Rattle.std.specs.Prelude.{IfOk, OnErr}
 use Rattle.std.proofs.lemmas.Bool.{cases_eq}
-use Rattle.std.proofs.lemmas.List.{drop_more, take_more, length-set, get_or-set_same, get_or-set_other, get_or_append_left}
+use Rattle.std.proofs.lemmas.List.{drop_more, take_more, length-set, get_or-set_same, get_or-set_other}
 use Rattle.std.proofs.lemmas.List.Edits.{length-insert, length-remove}
-use Rattle.std.proofs.lemmas.Option.{none-some, slice_get-get_or, get_or_from_slice_get, slice_get_within}
-use Rattle.bib_pages.specs.Pages.{joined, page_at, IsPlace}
-use Rattle.bib_order.specs.Orders.{Lacks, IsDistinct, IsKnown, IsTold, IsOrdered}
-use Rattle.bib_pages.proofs.Paging.{all_append, all_front, all_back, joined-more, joined-past, length-joined-more, length-joined-split, read_at}
+use Rattle.std.proofs.lemmas.Option.{slice_get_within}
+use Rattle.bib_order.specs.Orders.{IsKnown}
+use Rattle.bib_pages.proofs.Paging.{joined-more, joined-past, length-joined-split}
 
 -- ---- in use
 

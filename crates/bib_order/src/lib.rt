@@ -3,9 +3,9 @@
 //! and go.
 #![tactic(auto)]
 
+mod id_pages;
 mod listed;
 mod order;
-mod paged;
 mod sheet;
 mod sheets;
 

@@ -5,8 +5,8 @@ ghost use Rattle.std.specs.Option.{IfSome, IfNone};
 ghost use Rattle.bib_order.specs.Holders.{holders, before, FollowOrder};
 ghost use Rattle.bib_order.specs.Orders.{Lacks, IsDistinct, is_among, KeepsOrder};
 
+use crate::id_pages::IdPages;
 use crate::listed::Listed;
-use crate::paged::Paged;
 use std::alloc::{AllocError, Global};
 use std::marker::Model;
 
@@ -15,7 +15,7 @@ use std::marker::Model;
 enum Ids {
     // they ascend: each new one came after all others
     Listed(Listed),
-    Paged(Paged),
+    Paged(IdPages),
 }
 
 /// Distinct ids in an order: one for each member of a list that is kept elsewhere. An id stays with its member while others
@@ -137,7 +137,7 @@ impl Order {
         match &mut self.ids {
             Ids::Listed(ids) if n == ids.len() => ids.push(),
             Ids::Listed(ids) => {
-                let mut paged = Paged::of(self.alloc, ids)?;
+                let mut paged = IdPages::of(self.alloc, ids)?;
                 let id = paged.insert(n)?;
                 self.ids = Ids::Paged(paged);
                 Ok(id)
@@ -162,7 +162,7 @@ impl Order {
         ensures { self.new ≡ self.old }
     {
         if let Ids::Listed(ids) = &self.ids {
-            if let Ok(paged) = Paged::of(self.alloc, ids) {
+            if let Ok(paged) = IdPages::of(self.alloc, ids) {
                 self.ids = Ids::Paged(paged);
             }
         }

@@ -1,29 +1,22 @@
 -- Drafts of the records that a RIS text says, one after another.
-use Rattle.std.proofs.Common.{◌≡◌, ◌∙◌, ◌≤◌, ◌+◌, ℕ, Bool, true, false, List, [], ◌∷◌, ◌++◌, length, map, filter, not, refl, sym, ap, ap₂, subst, append-nil, zero-add}
+use Rattle.bib_ris.proofs.Words.{◌≡◌, ◌∙◌, ◌≤◌, ◌+◌, ℕ, true, false, List, [], ◌∷◌, ◌++◌, length, map, filter, not, refl, sym, ap, ap₂, subst, append-nil, Ok, map-append, Text, is_new_key, Record, NewEntry, made_base, RisRecord, ris_file, entry_of, are_balanced, Drafts, bases_of, AreDraftsOf}
+use Rattle.std.proofs.Common.{Bool, zero-add}
 use Rattle.std.specs.List.{list_all, AllByRecursion}
-use Rattle.std.specs.Prelude.{◌&&◌, Ok, Err}
+use Rattle.std.specs.Prelude.{◌&&◌, Err}
 use Rattle.std.proofs.Math.Bool.{and-false}
 use Rattle.std.proofs.lemmas.Bool.{and_from}
-use Rattle.std.proofs.lemmas.List.{map-append}
 use Rattle.std.proofs.lemmas.List.Elements.{filter-append}
 use Rattle.std.proofs.lemmas.List.Folds.{list_all-append}
-use Rattle.bib_spec.specs.Text.{Text, is_new_key}
-use Rattle.bib_spec.specs.Records.{Record}
 use Rattle.bib_spec.specs.MadeKeys.{base_limit}
-use Rattle.bib_data.specs.declared.edit.NewEntry.{NewEntry}
-use Rattle.bib_keys.specs.MadeBase.{made_base}
-use Rattle.ris_text.specs.declared.records.RisRecord.{RisRecord}
 use Rattle.ris_text.specs.declared.records.RisFile.{RisFile}
 use Rattle.ris_text.specs.declared.fault.RisFault.{RisFault}
-use Rattle.ris_text.specs.Code.{ris_file, with_record, with_front}
+use Rattle.ris_text.specs.Code.{with_record, with_front}
 use Rattle.ris_text.specs.Rest.{Rest, IsLeft}
 use Rattle.ris_text.proofs.RestLaws.{left-more}
 use Rattle.ris_format.specs.Mapping.{back}
-use Rattle.ris_format.specs.Entry.{entry_of, are_balanced}
 use Rattle.ris_format.proofs.PartLaws.{all-append}
-use Rattle.bib_ris.specs.declared.drafts.Drafts.{Drafts}
 use Rattle.bib_ris.specs.Import.{records_of, HasUnbalanced}
-use Rattle.bib_ris.specs.Drafts.{bases_of, AreDraftsOf, AreSaidBy}
+use Rattle.bib_ris.specs.Drafts.{AreSaidBy}
 
 -- ---- drafts
 

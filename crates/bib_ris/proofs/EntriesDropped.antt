@@ -1,13 +1,5 @@
 -- What RIS leaves out of entries, one after another.
-use Rattle.std.proofs.Common.{◌≡◌, ◌∙◌, ℕ, ◌+◌, ◌<◌, List, [], ◌∷◌, ◌++◌, length, take, get_or, filter_map, Option, None, Some, refl, sym, ap, append-nil}
-use Rattle.std.specs.List.{flat_map, cons_option}
-use Rattle.std.specs.Option.{option_map_or}
-use Rattle.std.proofs.lemmas.List.{take_more}
-use Rattle.std.proofs.lemmas.List.Elements.{filter_map-append}
-use Rattle.std.proofs.lemmas.Grind.{flat_map-append}
-use Rattle.bib_spec.specs.Text.{Text}
-use Rattle.bib_spec.specs.Records.{Record}
-use Rattle.bib_ris.specs.Dropped.{dropped_lines}
+use Rattle.bib_ris.proofs.Words.{◌≡◌, ◌∙◌, ℕ, ◌+◌, ◌<◌, List, [], ◌∷◌, ◌++◌, length, take, get_or, filter_map, Option, None, Some, refl, sym, ap, append-nil, flat_map, cons_option, option_map_or, take_more, filter_map-append, flat_map-append, Text, Record, dropped_lines}
 
 lines_found : (o : Option Record) → option_map_or dropped_lines o [] ≡ flat_map dropped_lines (cons_option o [])
 lines_found None = refl

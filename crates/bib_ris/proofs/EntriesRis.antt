@@ -1,14 +1,6 @@
 -- The RIS text of entries, one after another.
-use Rattle.std.proofs.Common.{◌≡◌, ◌∙◌, ℕ, ◌+◌, ◌<◌, List, [], ◌∷◌, ◌++◌, length, take, get_or, map, filter_map, Option, None, Some, refl, sym, ap, append-nil}
-use Rattle.std.specs.List.{cons_option}
-use Rattle.std.specs.Option.{option_map_or}
-use Rattle.std.proofs.lemmas.List.{take_more, map-append}
-use Rattle.std.proofs.lemmas.List.Elements.{filter_map-append}
-use Rattle.std.proofs.lemmas.Grind.{flat_map-append}
-use Rattle.bib_spec.specs.Text.{Text}
-use Rattle.bib_spec.specs.Records.{Record}
-use Rattle.ris_text.specs.Writing.{record_text, ris_text}
-use Rattle.ris_format.specs.Mapping.{ris}
+use Rattle.bib_ris.proofs.Words.{◌≡◌, ◌∙◌, ℕ, ◌+◌, ◌<◌, List, [], ◌∷◌, ◌++◌, length, take, get_or, map, filter_map, Option, None, Some, refl, sym, ap, append-nil, cons_option, option_map_or, take_more, map-append, filter_map-append, flat_map-append, Text, Record, record_text, ris}
+use Rattle.ris_text.specs.Writing.{ris_text}
 
 -- the text of the records that are found
 abbrev texts_found : {X : Type 0} → (X → Option Record) → List X → Text

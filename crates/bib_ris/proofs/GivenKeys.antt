@@ -1,13 +1,10 @@
 -- Keys that entries get in turn.
-use Rattle.std.proofs.Common.{◌≡◌, ◌∙◌, ℕ, ◌+◌, ◌<◌, ◌≤◌, true, false, List, [], ◌∷◌, ◌++◌, length, take, drop, set, get_or, refl, sym, ap, ap₂, arith, append_assoc, append-nil, add-one}
-use Rattle.std.proofs.lemmas.Bool.{cond-true, cond-false}
-use Rattle.std.proofs.lemmas.List.{take_more, take_all, drop-set-lt}
+use Rattle.bib_ris.proofs.Words.{◌≡◌, ◌∙◌, ℕ, ◌+◌, ◌<◌, ◌≤◌, true, false, List, [], ◌∷◌, ◌++◌, length, take, drop, get_or, refl, sym, ap, ap₂, arith, append-nil, cond-true, cond-false, take_more, Text, is_new_key, NewEntry, with_keys}
+use Rattle.std.proofs.Common.{set, append_assoc, add-one}
+use Rattle.std.proofs.lemmas.List.{take_all, drop-set-lt}
 use Rattle.std.proofs.Math.Seq.{take-suc-set}
 use Rattle.std.proofs.Math.ListN.{drop_of_length-le}
-use Rattle.bib_spec.specs.Text.{Text, is_new_key}
-use Rattle.bib_data.specs.declared.edit.NewEntry.{NewEntry}
 use Rattle.bib_keys.proofs.Walks.{next-read}
-use Rattle.bib_ris.specs.Drafts.{with_keys}
 
 with-none : (keys : List Text) → with_keys keys [] ≡ []
 with-none [] = refl

@@ -1,15 +1,10 @@
 -- The entries of records with keys: those of keys that are made apart and then given in turn.
-use Rattle.std.proofs.Common.{◌≡◌, ◌∙◌, true, false, not, List, [], ◌∷◌, map, filter, refl, sym, ap, ⊎_elim}
+use Rattle.bib_ris.proofs.Words.{◌≡◌, ◌∙◌, true, false, not, List, [], ◌∷◌, map, filter, refl, sym, ap, cases_Bool, cond-true, cond-false, Text, is_new_key, Record, made_keys, NewEntry, made_base, entry_of, usable_ids, bases_of, usable_keys, with_keys}
+use Rattle.std.proofs.Common.{⊎_elim}
 use Rattle.std.proofs.lemmas.Simd.{map-map}
-use Rattle.std.proofs.lemmas.Bool.{cases_Bool, cond-true, cond-false, not_from_true, not_from_false}
-use Rattle.bib_spec.specs.Text.{Text, is_new_key}
-use Rattle.bib_spec.specs.Records.{Record}
-use Rattle.bib_spec.specs.MadeKeys.{free_key, made_keys}
-use Rattle.bib_data.specs.declared.edit.NewEntry.{NewEntry}
-use Rattle.bib_keys.specs.MadeBase.{made_base}
-use Rattle.ris_format.specs.Entry.{entry_of}
-use Rattle.bib_ris.specs.Import.{usable_ids, with_key, keyed}
-use Rattle.bib_ris.specs.Drafts.{bases_of, usable_keys, with_keys}
+use Rattle.std.proofs.lemmas.Bool.{not_from_true, not_from_false}
+use Rattle.bib_spec.specs.MadeKeys.{free_key}
+use Rattle.bib_ris.specs.Import.{with_key, keyed}
 use Rattle.bib_ris.proofs.GivenKeys.{with-kept}
 
 -- the keys that an edit may write are those of the records

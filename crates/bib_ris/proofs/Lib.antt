@@ -1,3 +1,4 @@
+pub mod Words
 pub mod EntriesDropped
 pub mod EntriesRis
 pub mod RisFields

@@ -1,9 +1,7 @@
 -- RIS records are made of some fields alone.
-use Rattle.std.proofs.Common.{◌≡◌, ◌∙◌, Option, None, Some, option_map, refl, sym, ap}
+use Rattle.bib_ris.proofs.Words.{◌≡◌, ◌∙◌, Option, None, Some, option_map, refl, sym, ap, Record, with_chosen, ris}
 use Rattle.std.proofs.lemmas.Option.{same_Some, none-some}
-use Rattle.bib_spec.specs.Records.{Record}
-use Rattle.bib_store.specs.Choosing.{with_chosen}
-use Rattle.ris_format.specs.Mapping.{ris_names, ris}
+use Rattle.ris_format.specs.Mapping.{ris_names}
 use Rattle.ris_format.proofs.RisFields.{ris_sought}
 
 -- the record of the chosen fields alone has the same RIS record as the whole record

@@ -6,7 +6,7 @@ use Rattle.bib_spec.specs.Reading.{Reading}
 use Rattle.bib_spec.specs.Records.{Record}
 use Rattle.bib_spec.specs.MadeKeys.{free_key}
 use Rattle.bib_data.specs.declared.edit.NewEntry.{NewEntry}
-use Rattle.bib_store.specs.Meaning.{OfReading}
+use Rattle.bib_store.specs.Readings.{OfReading}
 use Rattle.bib_keys.specs.MadeBase.{made_base}
 use Rattle.bib_keys.specs.TakenKeys.{taken_in}
 use Rattle.ris_text.specs.declared.records.RisRecord.{RisRecord}

@@ -3,7 +3,7 @@
 ghost use Rattle.std.specs.Prelude.{◌≡◌, ◌<◌, ◌++◌, [], length, All, IfOk, IfErr, OnOk};
 ghost use Rattle.std.specs.Option.{option_map_or};
 ghost use Rattle.bib_spec.specs.Records.{entries_of, expanded, IsDepth};
-ghost use Rattle.bib_store.specs.Meaning.{OfReading, IsEntryNumber};
+ghost use Rattle.bib_store.specs.Readings.{OfReading, IsEntryNumber};
 ghost use Rattle.ris_text.specs.Writing.{record_text};
 ghost use Rattle.ris_format.specs.Mapping.{ris};
 ghost use Rattle.ris_format.specs.declared.fault.MappingFault.TheVariants.{Memory};

@@ -5,7 +5,7 @@ ghost use Rattle.std.specs.List.{AllByRecursion};
 ghost use Rattle.bib_spec.specs.Records.{Record as EntryRecord};
 ghost use Rattle.bib_spec.specs.MadeKeys.{base_limit, made_keys};
 ghost use Rattle.bib_keys.specs.TakenKeys.{taken_in};
-ghost use Rattle.bib_store.specs.Meaning.{OfReading};
+ghost use Rattle.bib_store.specs.Readings.{OfReading};
 ghost use Rattle.bib_ris.specs.Drafts.{AreDraftsOf, usable_keys};
 ghost use Rattle.bib_ris.specs.Import.{imported, AreAdditions, RefusesImport};
 ghost use Rattle.bib_ris.specs.declared.fault.ImportFault.TheVariants.{Memory};

@@ -1,14 +1,6 @@
 -- The ways in which a run ends.
-use Rattle.std.proofs.Common.{◌≡◌, ◌+◌, Bool, true, false, [], length, take, Option, None, refl, ap, subst, sym, arith}
-use Rattle.std.proofs.lemmas.List.{take_all}
-use Rattle.std.specs.Io.KnownBytes.{Appends}
-use Rattle.bib_spec.specs.Bytes.{file_limit}
-use Rattle.bib_spec.specs.Text.{Text}
-use Rattle.bib_words.specs.declared.commands.Command.{Command}
-use Rattle.bib_answers.specs.declared.answers.Answer.{Answer}
-use Rattle.bib_run.specs.Answers.{IsAnswer}
+use Rattle.bib_run.proofs.Words.{◌≡◌, ◌+◌, Bool, true, false, [], length, take, Option, None, refl, ap, subst, sym, arith, take_all, Appends, file_limit, Text, Command, Answer, IsAnswer, ReadsUpTo, WritesPrefix}
 use Rattle.bib_run.specs.Runs.{HasAnswer, HasJournal, HasInput, ReadsInput, TapView, TapsView, held, has_any_failed, read, unread, front, nothing}
-use Rattle.bib_run.specs.Transfers.{ReadsUpTo, WritesPrefix}
 use Rattle.bib_run.proofs.WholeFile.{source_bytes, IsAnswer-front, IsAnswer-input_front}
 
 -- the input whose front was read

@@ -1,4 +1,5 @@
 -- ---- readers, writers and the end of a run
+pub mod Words
 pub mod WholeFile
 pub mod Progress
 pub mod Endings

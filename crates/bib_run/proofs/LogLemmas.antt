@@ -1,11 +1,11 @@
 -- The lengths in the lines of a log.
-use Rattle.std.proofs.Common.{◌≡◌, ℕ, ◌*◌, ◌≤◌, ◌<◌, ◌^◌, ◌-◌, min, List, length, arith}
+use Rattle.bib_run.proofs.Words.{◌≡◌, ℕ, ◌≤◌, ◌<◌, ◌^◌, ◌-◌, min, List, length, arith, old_len, new_len}
+use Rattle.std.proofs.Common.{◌*◌}
 use Rattle.std.proofs.Math.Nat.{min-eq_left}
 use Rattle.std.proofs.lemmas.List.Elements.{All-from_recursion, All-weaker}
 use Rattle.std.proofs.lemmas.List.Sums.{sum_by-le}
 use Rattle.bib_spec.specs.Pieces.{Piece}
 use Rattle.history_spec.specs.Steps.{AreWritable, HasSmallNumbers, number_limit}
-use Rattle.bib_run.specs.Log.{old_len, new_len}
 
 -- the sum of small lengths of few pieces is small
 few_small : (n sum : ℕ) → n ≤ number_limit → sum ≤ n * number_limit → sum < 2 ^ 64

@@ -1,20 +1,16 @@
 -- What each command answers is determined by the bytes of its sources.
-use Rattle.std.proofs.Common.{◌≡◌, ◌≢◌, ◌≤◌, ◌==◌, ℕ, Bool, true, false, List, [], length, bytes_eq, codes, Option, Some, None, option_map, replicate, inl, inr, refl, sym, ◌∙◌, ap, ap₂, subst, arith}
-use Rattle.std.specs.List.{list_all}
-use Rattle.std.proofs.lemmas.Bool.{false≢true}
-use Rattle.std.proofs.lemmas.Option.{none-some, same_Some}
-use Rattle.bib_spec.specs.Bytes.{name_limit, file_limit}
-use Rattle.bib_spec.specs.Text.{Text}
-use Rattle.bib_spec.specs.Reading.{Reading, Reads, HasReading, HasReadingWithin}
-use Rattle.bib_spec.specs.Texts.{IsOpenable, too_long_at}
-use Rattle.bib_spec.specs.Fault.{IsReadFault, IsFaultAt, fault_number, too_long, no_reading, no_memory}
+use Rattle.bib_run.proofs.Words.{◌≡◌, ◌≢◌, ◌≤◌, ◌==◌, ℕ, Bool, true, false, List, [], length, bytes_eq, codes, Option, Some, None, option_map, replicate, inl, inr, refl, sym, ◌∙◌, ap, subst, arith, list_all, false≢true, none-some, same_Some, file_limit, Text, Reading, IsOpenable, IsReadFault}
+use Rattle.bib_run.proofs.Words.{no_reading, IsOpenFault, KeptSteps, AddMany, Request, Additions, AreAdditions, SessionFault, Saved, Saves, SessionState, idle, Opens, IsOpened, HasTurned, one-opening, opened_is_sound, open_fault, Command, Answer, refusal_line, answer_of, IsCatAnswer, AnswersFile}
+use Rattle.bib_run.proofs.Words.{said_of, position_of, IsLintAnswer, error_line, IsUnopened, IsUnopenedAnswer, IsUnfit, OpensWith, judged_journal, bad_journal_line, fault_line, outcome_after, AnswersSession, AnswersInput, HasEdited, HasEditedBy, HasEditedByWords, IsEditAnswer, IsWordsAnswer}
+use Rattle.bib_run.proofs.Words.{edited_answer, stop_line, fault_message, HasAdded, HasImported, IsImportAnswer, IsTurnAnswer, IsLogAnswer, IsForgetAnswer, IsStoredAnswer, IsAnswerTo, first_word, key_words, shown}
+use Rattle.std.proofs.Common.{ap₂}
+use Rattle.bib_spec.specs.Bytes.{name_limit}
+use Rattle.bib_spec.specs.Reading.{Reads, HasReading, HasReadingWithin}
+use Rattle.bib_spec.specs.Texts.{too_long_at}
+use Rattle.bib_spec.specs.Fault.{IsFaultAt, fault_number, too_long, no_memory}
 use Rattle.bib_scan.proofs.OneReading.{one_reading}
 use Rattle.bib_scan.proofs.PlaceLaws.{one_place, one_fault}
-use Rattle.bib_store.specs.Meaning.{IsOpenFault}
-use Rattle.history_spec.specs.Steps.{KeptSteps}
 use Rattle.bib_data.specs.declared.edit.NewEntry.{NewEntry}
-use Rattle.bib_data.specs.declared.edit.Edit.TheVariants.{AddMany}
-use Rattle.bib_data.specs.declared.request.Request.{Request}
 use Rattle.bib_data.specs.declared.request.Request.TheVariants as request
 use Rattle.bib_names.specs.Template.{Pattern}
 use Rattle.bib_names.proofs.TemplateLaws as templates
@@ -24,45 +20,25 @@ use Rattle.ris_text.specs.Lines.{lines_of}
 use Rattle.ris_text.proofs.MeaningLaws as meanings
 use Rattle.bib_ris.specs.declared.fault.ImportFault.{ImportFault}
 use Rattle.bib_ris.specs.declared.fault.ImportFault.TheVariants.{Unread, UnbalancedText, Memory}
-use Rattle.bib_ris.specs.declared.importing.Additions.{Additions}
-use Rattle.bib_ris.specs.Import.{AreAdditions, RefusesImport, records_of, imported}
+use Rattle.bib_ris.specs.Import.{RefusesImport, records_of, imported}
 use Rattle.ris_format.specs.Entry.{are_balanced}
-use Rattle.bib_journal.specs.declared.fault.SessionFault.{SessionFault}
-use Rattle.bib_journal.specs.declared.saving.Saved.{Saved}
-use Rattle.bib_journal.specs.Loading.{Saves}
-use Rattle.bib_journal.specs.OpenSteps.{SessionState, idle}
 use Rattle.bib_journal.specs.OneResult.{IsGood}
-use Rattle.bib_journal.specs.Session.{started, Opens, IsOpened}
-use Rattle.bib_journal.specs.Turns.{HasTurned}
-use Rattle.bib_journal.proofs.SeveralRuns.{one-opening, opened_is_sound}
-use Rattle.bib_journal.proofs.SavedLoads.{open_fault}
+use Rattle.bib_journal.specs.Session.{started}
 use Rattle.bib_journal.proofs.Moves.{none_open}
 use Rattle.bib_journal.proofs.OneResult.{one-result, one_saved, one_does, one_refusal, not_both}
-use Rattle.bib_words.specs.declared.commands.Command.{Command}
-use Rattle.bib_answers.specs.declared.answers.Answer.{Answer}
-use Rattle.bib_answers.specs.Messages.{refusal_line}
-use Rattle.bib_answers.specs.Outcome.{answer_of}
-use Rattle.bib_answers.specs.Cat.{IsCatAnswer}
-use Rattle.bib_answers.specs.Opened.{AnswersFile}
 use Rattle.bib_answers.specs.Check.{check_answer}
 use Rattle.bib_answers.specs.Show.{show_answer}
 use Rattle.bib_answers.specs.Cite.{cite_answer}
 use Rattle.bib_answers.specs.Labels.{labels_answer}
 use Rattle.bib_answers.specs.Names.{Spells, names_answer}
-use Rattle.bib_script.specs.Script.{said_of}
 use Rattle.bib_answers.specs.Json.{json_answer}
 use Rattle.bib_answers.specs.NewKeys.{newkeys_answer}
-use Rattle.bib_answers.specs.Positions.{position_of}
-use Rattle.bib_answers.specs.Lint.{IsLintAnswer, lint_answer, error_line}
+use Rattle.bib_answers.specs.Lint.{lint_answer}
 use Rattle.bib_run.specs.Ris.{ris_answer}
-use Rattle.bib_run.specs.Sessions.{IsUnopened, IsUnopenedAnswer, IsUnfit, OpensWith, judged_journal, bad_journal_line, fault_line, outcome_after}
-use Rattle.bib_run.specs.Inputs.{AnswersSession, AnswersInput}
-use Rattle.bib_run.specs.EditAnswer.{HasEdited, HasEditedBy, HasEditedByWords, IsEditAnswer, IsWordsAnswer, edited_answer, stop_line, fault_message}
-use Rattle.bib_run.specs.ImportAnswer.{HasAdded, HasImported, IsImportAnswer, import_fault_line, added_answer}
-use Rattle.bib_run.specs.Turns.{IsTurnAnswer, turned_line}
-use Rattle.bib_run.specs.Log.{IsLogAnswer, IsForgetAnswer, log_text, journal_left}
-use Rattle.bib_run.specs.Answers.{IsStoredAnswer, IsAnswerTo, first_word, key_word, key_words, template_word}
-use Rattle.bib_run.specs.Shown.{shown}
+use Rattle.bib_run.specs.ImportAnswer.{import_fault_line, added_answer}
+use Rattle.bib_run.specs.Turns.{turned_line}
+use Rattle.bib_run.specs.Log.{log_text, journal_left}
+use Rattle.bib_run.specs.Answers.{key_word, template_word}
 use Rattle.bib_run.specs.OneAnswer.{one_answer}
 use Rattle.bib_run.proofs.StoredRuns.{not_unopened, not_unfit, not_refused_with, not_one, opened-is}
 

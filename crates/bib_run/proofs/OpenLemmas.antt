@@ -1,11 +1,7 @@
 -- A journal that is unfit.
-use Rattle.std.proofs.Common.{◌≡◌, true, Option, Some, None, refl}
-use Rattle.bib_spec.specs.Text.{Text}
-use Rattle.bib_journal.specs.declared.fault.SessionFault.{SessionFault}
-use Rattle.bib_journal.specs.declared.fault.SessionFault.TheVariants.{Unopened, Refused, JournalFull, NothingToUndo, NothingToRedo, BadJournal, JournalMismatch, StepOpen, NoOpenStep, Memory}
-use Rattle.bib_journal.specs.OpenSteps.{SessionState}
-use Rattle.bib_journal.specs.Session.{IsOpened, RefusesOpen}
-use Rattle.bib_run.specs.Sessions.{OpensWith, is_of_journal, none, mismatch, begun}
+use Rattle.bib_run.proofs.Words.{◌≡◌, true, Option, Some, None, refl, Text, SessionFault, Unopened, BadJournal, JournalMismatch, SessionState, IsOpened, RefusesOpen, OpensWith, is_of_journal}
+use Rattle.bib_journal.specs.declared.fault.SessionFault.TheVariants.{Refused, JournalFull, NothingToUndo, NothingToRedo, StepOpen, NoOpenStep, Memory}
+use Rattle.bib_run.specs.Sessions.{none, mismatch, begun}
 
 -- where the journal is at fault, the file is opened as one to which nothing was done
 pub opens_anew : (fault : SessionFault) (file : Text) (journal : Option Text) (state : SessionState) → is_of_journal fault ≡ true → RefusesOpen fault file journal

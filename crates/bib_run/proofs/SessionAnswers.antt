@@ -1,16 +1,6 @@
 -- Why no session is opened, as an answer.
-use Rattle.std.proofs.Common.{◌≡◌, ◌≢◌, ℕ, [], Option, Some, None}
-use Rattle.bib_spec.specs.Text.{Text}
-use Rattle.bib_scan.specs.declared.fault.ReadFault.{ReadFault}
-use Rattle.bib_store.specs.Meaning.{IsOpenFault}
-use Rattle.bib_journal.specs.declared.fault.SessionFault.{SessionFault}
-use Rattle.bib_journal.specs.declared.fault.SessionFault.TheVariants.{Unopened, BadJournal, JournalMismatch}
-use Rattle.bib_journal.specs.Session.{RefusesOpen}
-use Rattle.bib_answers.specs.declared.answers.Answer.{Answer}
-use Rattle.bib_answers.specs.Messages.{refusal_line}
-use Rattle.bib_answers.specs.Outcome.{answer_of}
+use Rattle.bib_run.proofs.Words.{◌≡◌, ◌≢◌, ℕ, [], Option, Some, None, Text, ReadFault, IsOpenFault, SessionFault, Unopened, BadJournal, JournalMismatch, RefusesOpen, Answer, refusal_line, answer_of, IsUnopenedAnswer, bad_journal_line, mismatch_line}
 use Rattle.bib_run.specs.Sessions as why
-use Rattle.bib_run.specs.Sessions.{IsUnopenedAnswer, bad_journal_line, mismatch_line}
 
 -- the answer says why no session is opened, for every file and journal with this fault
 abbrev pub Tells : SessionFault → Answer → Type 0

@@ -1,50 +1,31 @@
 -- Runs of the program, as sessions that do what the commands ask for.
-use Rattle.std.proofs.Common.{◌≡◌, ◌≢◌, ℕ, suc, Bool, true, false, ◌||◌, ◌&&◌, ◌==◌, if◌then◌else◌, List, [], ◌∷◌, ◌++◌, length, take, replicate, bytes_eq, codes, Option, Some, None, option_map, unwrap_or, ◌⊎◌, inl, inr, ⊎_elim, refl, sym, ◌∙◌, ap, subst, arith, eqb-true}
-use Rattle.std.specs.List.{list_all}
+use Rattle.bib_run.proofs.Words.{◌≡◌, ◌≢◌, ℕ, Bool, true, false, ◌==◌, List, [], ◌++◌, length, take, replicate, bytes_eq, codes, Option, Some, None, option_map, inl, inr, refl, sym, ◌∙◌, ap, subst, arith, list_all, false≢true, none-some, same_Some, Text, Reading, IsOpenable, ReadFault, IsOpenFault}
+use Rattle.bib_run.proofs.Words.{KeptSteps, AddMany, Request, SessionFault, Unopened, BadJournal, JournalMismatch, Saved, Saves, SessionState, idle, Opens, IsOpened, RefusesOpen, Performs, HasTurned, one-opening, opened_is_sound, open_fault, Additions, Said, said_of, asked_by_words, Command, Answer}
+use Rattle.bib_run.proofs.Words.{IsUnopened, IsUnfit, OpensWith, judged_journal, bad_journal_line, mismatch_line, fault_line, outcome_after, AnswersSession, AnswersInput, HasEdited, HasEditedBy, HasEditedByWords, IsEditAnswer, IsWordsAnswer, changes_of, stop_line, fault_message, HasAdded}
+use Rattle.bib_run.proofs.Words.{HasImported, IsImportAnswer, IsTurnAnswer, IsLogAnswer, IsStoredAnswer, IsAnswerTo, key_words, shown}
+use Rattle.std.proofs.Common.{suc, ◌||◌, ◌&&◌, if◌then◌else◌, ◌∷◌, unwrap_or, ◌⊎◌, ⊎_elim, eqb-true}
 use Rattle.std.specs.Option.{option_map_or}
-use Rattle.std.proofs.lemmas.Bool.{cases_Bool, cond-true, cond-false, false≢true, and_parts}
+use Rattle.std.proofs.lemmas.Bool.{cases_Bool, cond-true, cond-false, and_parts}
 use Rattle.std.proofs.lemmas.List.Folds.{list_all-append}
 use Rattle.std.proofs.lemmas.List.Sums.{sum_by-cons}
-use Rattle.std.proofs.lemmas.Option.{none-some, same_Some}
-use Rattle.bib_spec.specs.Text.{Text}
-use Rattle.bib_spec.specs.Reading.{Reading}
-use Rattle.bib_spec.specs.Texts.{IsOpenable, is_empty}
+use Rattle.bib_spec.specs.Texts.{is_empty}
 use Rattle.bib_spec.proofs.Names.{eq-true}
-use Rattle.bib_scan.specs.declared.fault.ReadFault.{ReadFault}
-use Rattle.bib_store.specs.Meaning.{IsOpenFault}
-use Rattle.history_spec.specs.Steps.{KeptSteps, IsSound, label_of, history_of}
+use Rattle.history_spec.specs.Steps.{IsSound, label_of, history_of}
 use Rattle.bib_data.specs.declared.edit.Edit.{Edit}
-use Rattle.bib_data.specs.declared.edit.Edit.TheVariants.{AddMany}
-use Rattle.bib_data.specs.declared.request.Request.{Request}
 use Rattle.bib_data.specs.declared.request.Request.TheVariants as request
-use Rattle.bib_journal.specs.declared.fault.SessionFault.{SessionFault}
-use Rattle.bib_journal.specs.declared.fault.SessionFault.TheVariants.{Memory, Unopened, BadJournal, JournalMismatch}
-use Rattle.bib_journal.specs.declared.saving.Saved.{Saved}
+use Rattle.bib_journal.specs.declared.fault.SessionFault.TheVariants.{Memory}
 use Rattle.bib_journal.specs.declared.open_step.OpenStep.{OpenStep}
-use Rattle.bib_journal.specs.Loading.{Saves}
-use Rattle.bib_journal.specs.OpenSteps.{SessionState, idle}
-use Rattle.bib_journal.specs.Session.{Opens, IsOpened, RefusesOpen, DoesAll, Performs}
+use Rattle.bib_journal.specs.Session.{DoesAll}
 use Rattle.bib_journal.specs.Runs.{OnDisk, left, leaves_open, ended, requests_of, IsOneSession}
-use Rattle.bib_journal.specs.Turns.{HasTurned}
 use Rattle.bib_journal.specs.Renaming.{OfReadings, KeepsTexts, is_renaming}
-use Rattle.bib_journal.proofs.SeveralRuns.{one-opening, opened_is_sound, opened_present, all_keep_sound, left_opens, sessions-are-one, first_file, session_keeps_first}
+use Rattle.bib_journal.proofs.SeveralRuns.{opened_present, all_keep_sound, left_opens, sessions-are-one, first_file, session_keeps_first}
 use Rattle.bib_journal.proofs.EndedSessions.{ended_session, undone_all, redone_all}
 use Rattle.bib_journal.proofs.KeptRecords.{all-keep, some-pass}
-use Rattle.bib_journal.proofs.SavedLoads.{open_fault, open_refused}
-use Rattle.bib_ris.specs.declared.importing.Additions.{Additions}
+use Rattle.bib_journal.proofs.SavedLoads.{open_refused}
 use Rattle.bib_script.specs.Parting.{words_of, lines_of}
-use Rattle.bib_script.specs.Script.{Said, said_of, said_by, said_first, nothing_said, request_of, edit_of, group_of, end_of}
-use Rattle.bib_script.specs.Words.{asked_by_words, step_of, label_of_words}
-use Rattle.bib_words.specs.declared.commands.Command.{Command}
-use Rattle.bib_answers.specs.declared.answers.Answer.{Answer}
-use Rattle.bib_run.specs.Sessions.{IsUnopened, IsUnfit, OpensWith, judged_journal, bad_journal_line, mismatch_line, fault_line, outcome_after}
-use Rattle.bib_run.specs.Inputs.{AnswersSession, AnswersInput}
-use Rattle.bib_run.specs.EditAnswer.{HasEdited, HasEditedBy, HasEditedByWords, IsEditAnswer, IsWordsAnswer, changes_of, edits_in, stop_line, fault_message}
-use Rattle.bib_run.specs.ImportAnswer.{HasAdded, HasImported, IsImportAnswer}
-use Rattle.bib_run.specs.Turns.{IsTurnAnswer}
-use Rattle.bib_run.specs.Log.{IsLogAnswer}
-use Rattle.bib_run.specs.Answers.{IsStoredAnswer, IsAnswerTo, key_words}
-use Rattle.bib_run.specs.Shown.{shown}
+use Rattle.bib_script.specs.Script.{said_by, said_first, nothing_said, request_of, edit_of, group_of, end_of}
+use Rattle.bib_script.specs.Words.{step_of, label_of_words}
+use Rattle.bib_run.specs.EditAnswer.{edits_in}
 use Rattle.bib_run.specs.StoredRuns.{edits_asked, stored, OpensSession, Asks, Accepts, a_run_is_a_session, Call, AreAccepted, runs_of_the_program_are_one_session, one_undo_leads_to_the_first_file, one_redo_leads_to_the_last_file, renames, runs_of_renamings_keep_every_record}
 
 -- ---- names

@@ -1,42 +1,27 @@
 -- What was read up to the limit tells of the whole file.
-use Rattle.std.proofs.Common.{◌≡◌, ◌≢◌, ◌∙◌, Bool, ℕ, ◌+◌, ◌<◌, ◌≤◌, [], ◌++◌, length, take, drop, fold, ap, Option, Some, None, subst, refl, arith, inl, inr, sym, append-nil, length-append, codes}
-use Rattle.std.proofs.lemmas.List.{take_all, length-take-le}
+use Rattle.bib_run.proofs.Words.{◌≡◌, ◌≢◌, ◌∙◌, Bool, ℕ, ◌+◌, ◌<◌, ◌≤◌, [], ◌++◌, length, take, drop, ap, Option, Some, None, subst, refl, arith, inl, inr, sym, codes, take_all, take-add, Consumes, file_limit, Text, IsReadFault, no_reading, Command, Answer, ReadsUpTo, Reading, KeptSteps, Request}
+use Rattle.bib_run.proofs.Words.{SessionState, Opens, IsOpenFault, AnswersFile, IsCatAnswer, IsLintAnswer, error_line, answer_of, position_of, IsAnswer, IsStoredAnswer, key_words, of_reading, edit, edit_words, import, undo, redo, log, forget, lint, explain, first_word, AnswersSession, AnswersInput}
+use Rattle.bib_run.proofs.Words.{HasEditedBy, HasEditedByWords, HasImported, IsUnopened, IsUnopenedAnswer, OpensWith, judged_journal, IsTurnAnswer, IsLogAnswer, IsForgetAnswer}
+use Rattle.std.proofs.Common.{fold, append-nil, length-append}
+use Rattle.std.proofs.lemmas.List.{length-take-le}
 use Rattle.std.proofs.lemmas.Bool.{cases_eq, cases_lt}
-use Rattle.std.proofs.Math.Seq.{take-add, take-append_seam}
-use Rattle.std.specs.Io.KnownBytes.{Consumes}
-use Rattle.bib_spec.specs.Bytes.{file_limit}
-use Rattle.bib_spec.specs.Text.{Text}
-use Rattle.bib_spec.specs.Fault.{IsReadFault, too_long, no_reading, no_memory}
-use Rattle.bib_words.specs.declared.commands.Command.{Command}
-use Rattle.bib_answers.specs.declared.answers.Answer.{Answer}
-use Rattle.bib_run.specs.Transfers.{ReadsUpTo, HasBytes}
-use Rattle.bib_spec.specs.Reading.{Reading}
-use Rattle.history_spec.specs.Steps.{KeptSteps}
-use Rattle.bib_data.specs.declared.request.Request.{Request}
+use Rattle.std.proofs.Math.Seq.{take-append_seam}
+use Rattle.bib_spec.specs.Fault.{too_long, no_memory}
+use Rattle.bib_run.specs.Transfers.{HasBytes}
 use Rattle.bib_data.specs.declared.request.Request.TheVariants.{Undo, Redo}
-use Rattle.bib_journal.specs.OpenSteps.{SessionState}
-use Rattle.bib_journal.specs.Session.{Opens}
 use Rattle.bib_journal.proofs.LoadLemmas.{opened_short}
-use Rattle.bib_store.specs.Meaning.{IsOpenFault}
 use Rattle.bib_answers.specs.Opened as opening
-use Rattle.bib_answers.specs.Opened.{AnswersFile, opened}
-use Rattle.bib_answers.specs.Cat.{IsCatAnswer, copied, refused}
+use Rattle.bib_answers.specs.Opened.{opened}
+use Rattle.bib_answers.specs.Cat.{copied, refused}
 use Rattle.bib_answers.specs.Lint as linting
-use Rattle.bib_answers.specs.Lint.{IsLintAnswer, error_line}
-use Rattle.bib_answers.specs.Outcome.{answer_of}
-use Rattle.bib_answers.specs.Positions.{position, position_after, position_of}
+use Rattle.bib_answers.specs.Positions.{position, position_after}
 use Rattle.bib_answers.specs.declared.positions.Position.{Position}
-use Rattle.bib_run.specs.Answers.{IsAnswer, IsStoredAnswer, key_words, cat, of_reading, edit, edit_words, import, undo, redo, log, forget, lint, explain, first_word}
+use Rattle.bib_run.specs.Answers.{cat}
 use Rattle.bib_run.specs.Inputs as inputs
-use Rattle.bib_run.specs.Inputs.{AnswersSession, AnswersInput, answered}
-use Rattle.bib_run.specs.EditAnswer.{HasEditedBy, HasEditedByWords}
-use Rattle.bib_run.specs.ImportAnswer.{HasImported}
+use Rattle.bib_run.specs.Inputs.{answered}
 use Rattle.bib_run.specs.Sessions as why
-use Rattle.bib_run.specs.Sessions.{IsUnopened, IsUnopenedAnswer, OpensWith, judged_journal}
 use Rattle.bib_run.specs.Turns as turning
-use Rattle.bib_run.specs.Turns.{IsTurnAnswer}
 use Rattle.bib_run.specs.Log as logging
-use Rattle.bib_run.specs.Log.{IsLogAnswer, IsForgetAnswer}
 
 -- what was read up to the limit is the first `most` bytes of all that there was
 pub take-read : (most : ℕ) (v rest : Text) → length v ≤ most → (length v ≢ most → rest ≡ []) → take most (v ++ rest) ≡ v

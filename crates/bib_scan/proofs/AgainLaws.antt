@@ -1,13 +1,8 @@
 -- Bytes that the grammar gives are read again: values and rows.
-use Rattle.std.proofs.Common.{◌≡◌, ℕ, zero, suc, ◌-◌, ◌<◌, ◌≤◌, true, false, eqb, List, [], ◌∷◌, ◌++◌, length, take, refl, sym, ap, subst, ◌∙◌, arith, append_assoc, inl, inr, Option, None, Some, Result, Ok}
-use Rattle.std.proofs.lemmas.Bool.{eqb-true, eq-eqb, ne_eqb, or_cases, not_from_false, both_ways, cond-true, cond-false, false_from_ne_true}
-use Rattle.std.proofs.lemmas.List.{length-append, take_at}
-use Rattle.std.proofs.lemmas.List.Elements.{All-head, All-tail}
-use Rattle.std.specs.List.{flat_map, All}
-use Rattle.std.specs.Char.{is_ascii_digit}
-use Rattle.bib_spec.specs.Text.{Text, is_space, is_name_within, is_name_byte, after_run}
-use Rattle.bib_spec.specs.Tree.{Part, Braced, Quoted, Digits, Macro, Link, Value, Assignment, Row, part_bytes, link_bytes, value_bytes, row_bytes, last_comma_bytes, IsSpace, IsPart, IsLink, IsValue, IsAssignment, IsRow, IsLastComma}
-use Rattle.bib_scan.specs.LeftToRight.{Read, Halt, Assigned, read_name, read_assignment, past_hash, read_links, read_value_rest, read_value, read_row, past_byte, read_rows, ◌>>=◌}
+use Rattle.bib_scan.proofs.Words.{◌≡◌, ℕ, zero, suc, ◌-◌, ◌<◌, ◌≤◌, true, false, eqb, List, [], ◌∷◌, ◌++◌, length, take, refl, sym, ap, subst, ◌∙◌, arith, append_assoc, inl, inr, Option, None, Some, Result, Ok, eqb-true, eq-eqb, ne_eqb, or_cases, not_from_false, both_ways, cond-true, cond-false}
+use Rattle.bib_scan.proofs.Words.{false_from_ne_true, length-append, take_at, All-head, All-tail, flat_map, All, is_ascii_digit, Text, is_space, is_name_within, is_name_byte, after_run, Part, Braced, Quoted, Macro, Link, Value, Assignment, Row, part_bytes, link_bytes, value_bytes, row_bytes}
+use Rattle.bib_scan.proofs.Words.{last_comma_bytes, IsSpace, IsPart, IsLink, IsValue, IsAssignment, IsRow, IsLastComma, Read, Halt, Assigned, read_name, read_assignment, past_hash, read_links, read_value_rest, read_value, read_row, past_byte, read_rows, ◌>>=◌}
+use Rattle.bib_spec.specs.Tree.{Digits}
 use Rattle.bib_scan.proofs.PartLaws.{AfterPart, part_again, name_parts, name_again}
 use Rattle.bib_scan.proofs.ValueLemmas.{links_more, links_end}
 use Rattle.bib_scan.proofs.ValueLaws.{Stands, skip_space}

@@ -1,6 +1,5 @@
 -- Counting braces from left to right.
-use Rattle.std.proofs.Common.{◌≡◌, ℕ, ◌+◌, ◌≤◌}
-use Rattle.bib_spec.specs.Text.{Text, opened_before, closed_before}
+use Rattle.bib_scan.proofs.Words.{◌≡◌, ℕ, ◌+◌, ◌≤◌, Text, opened_before, closed_before}
 
 -- `depth` braces are open after the first i bytes, and no prefix up to there closes more than it opens
 pub record Counted (t : Text) (i depth : ℕ) : Type 0 where

@@ -1,10 +1,8 @@
 -- Braced and quoted text: what is read is balanced, and what is balanced is read.
-use Rattle.std.proofs.Common.{◌≡◌, ℕ, zero, suc, ◌+◌, ◌-◌, ◌<◌, ◌≤◌, false, cond, eqb, [], ◌∷◌, ◌++◌, length, take, refl, sym, ap, subst, ◌∙◌, arith, inl, inr, Ok, Err, slice_index}
+use Rattle.bib_scan.proofs.Words.{◌≡◌, ℕ, zero, suc, ◌+◌, ◌-◌, ◌<◌, ◌≤◌, false, cond, eqb, [], ◌∷◌, ◌++◌, length, take, refl, sym, ap, subst, ◌∙◌, arith, inl, inr, Ok, Err, slice_index, eq-eqb, ne_eqb, or_from, cases_eq, is_byte3, Text, opened_before, closed_before, Read, with_front, read_braced}
+use Rattle.bib_scan.proofs.Words.{read_quoted}
 use Rattle.std.proofs.lemmas.List.Sums.{sum_by-cons}
-use Rattle.std.proofs.lemmas.Bool.{eq-eqb, ne_eqb, or_from, cases_eq}
-use Rattle.memchr.specs.Find.{is_byte3}
-use Rattle.bib_spec.specs.Text.{Text, opened_before, closed_before, IsBalanced, QuotesAreBraced}
-use Rattle.bib_scan.specs.LeftToRight.{Read, with_front, read_braced, read_quoted}
+use Rattle.bib_spec.specs.Text.{IsBalanced, QuotesAreBraced}
 use Rattle.bib_scan.proofs.BraceLemmas.{braced_takes, quoted_takes, braced_opens, braced_closes, braced_ends, braced_nil, quoted_opens, quoted_closes, quoted_ends, quoted_inside, quoted_unbalanced, quoted_nil}
 use Rattle.bib_scan.proofs.RunLaws.{ok_same, not_ok}
 

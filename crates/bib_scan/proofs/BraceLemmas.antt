@@ -1,11 +1,10 @@
 -- Steps of the readers of braced and quoted text.
-use Rattle.std.proofs.Common.{◌≡◌, ℕ, zero, suc, ◌+◌, ◌-◌, ◌<◌, ◌≤◌, Bool, true, false, ◌||◌, eqb, List, [], ◌∷◌, ◌++◌, length, get_or, take, drop, refl, sym, ap, subst, ◌∙◌, arith, append_assoc, append-nil, add-one, inl, inr, Ok, Err, None, Some}
-use Rattle.std.proofs.lemmas.List.{drop-drop, drop-take, take-take, get_or-drop, length-drop, drop_more, take_more, drop_all, take-append-drop}
-use Rattle.std.proofs.lemmas.Bool.{or_parts, or_cases, false_from_ne_true, and_right, eqb-true, eq-eqb, ne_eqb, cond-true}
-use Rattle.memchr.specs.Find.{IsFirstByte, NoneBefore, Nowhere, Passes, is_byte2, is_byte3}
-use Rattle.bib_spec.specs.Fault.{Unended, UnbalancedBrace}
-use Rattle.bib_spec.specs.Text.{Text}
-use Rattle.bib_scan.specs.LeftToRight.{Read, Halt, stop, with_front, read_braced, read_quoted}
+use Rattle.bib_scan.proofs.Words.{◌≡◌, ℕ, zero, suc, ◌+◌, ◌-◌, ◌<◌, ◌≤◌, Bool, true, false, ◌||◌, eqb, List, [], ◌∷◌, ◌++◌, length, get_or, take, drop, refl, sym, ap, subst, ◌∙◌, arith, append_assoc, append-nil, inl, inr, Ok, Err, None, Some, drop-drop, take-take, get_or-drop, length-drop}
+use Rattle.bib_scan.proofs.Words.{drop_more, drop_all, take-append-drop, or_parts, or_cases, false_from_ne_true, eqb-true, eq-eqb, ne_eqb, cond-true, IsFirstByte, NoneBefore, Nowhere, is_byte2, is_byte3, Unended, UnbalancedBrace, Text, Read, Halt, stop, with_front, read_braced, read_quoted}
+use Rattle.std.proofs.Common.{add-one}
+use Rattle.std.proofs.lemmas.List.{drop-take, take_more}
+use Rattle.std.proofs.lemmas.Bool.{and_right}
+use Rattle.memchr.specs.Find.{Passes}
 
 pub with_front-nil : (r : Read Text) → with_front [] r ≡ r
 with_front-nil (Ok x) = refl

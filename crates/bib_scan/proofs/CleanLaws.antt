@@ -1,15 +1,9 @@
 -- Where commands begin, and clean texts.
-use Rattle.std.proofs.Common.{◌≡◌, ◌↔◌, ℕ, zero, suc, ◌+◌, Bool, true, false, ◌&&◌, ◌||◌, ◌==◌, cond, [], ◌∷◌, ◌++◌, length, take, drop, refl, sym, ap, subst, ◌∙◌, arith, append-nil, inl, inr}
-use Rattle.std.proofs.lemmas.Bool.{eqb-true, and_parts, cases_Bool}
-use Rattle.std.proofs.lemmas.List.{take-append-drop, take-append-le, drop-append-le}
-use Rattle.std.proofs.lemmas.List.Sums.{prefix_len-le-length}
-use Rattle.std.specs.Prelude.{codes}
-use Rattle.std.specs.List.{take_while, prefix_len}
-use Rattle.bib_spec.specs.Text.{Text, is_space, is_name, is_name_byte, is_type_byte, same, after_run}
-use Rattle.bib_spec.specs.Clean.{begins_command, opens_body, IsClean}
+use Rattle.bib_scan.proofs.Words.{◌≡◌, ◌↔◌, ℕ, zero, suc, ◌+◌, Bool, true, false, ◌&&◌, ◌||◌, ◌==◌, cond, [], ◌∷◌, ◌++◌, length, take, drop, refl, sym, ap, subst, ◌∙◌, arith, append-nil, inl, inr, eqb-true, and_parts, cases_Bool, take-append-drop, prefix_len-le-length, codes, take_while, prefix_len}
+use Rattle.bib_scan.proofs.Words.{Text, is_space, is_name_byte, is_type_byte, same, after_run, begins_command, opens_body, IsClean, next_command, Next}
+use Rattle.std.proofs.lemmas.List.{take-append-le, drop-append-le}
+use Rattle.bib_spec.specs.Text.{is_name}
 use Rattle.bib_scan.specs.Laws.{IsCleanBeforeSign}
-use Rattle.bib_scan.specs.LeftToRight.{next_command}
-use Rattle.bib_scan.specs.ReadSoFar.{Next}
 use Rattle.bib_scan.proofs.CommandLemmas.{next_none, next_here}
 
 -- a byte that stops a run stops it at every place

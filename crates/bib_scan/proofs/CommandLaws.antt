@@ -1,13 +1,9 @@
 -- Commands: what is read is a tree.
-use Rattle.std.proofs.Common.{◌≡◌, ℕ, ◌<◌, Bool, true, false, ◌||◌, eqb, [], ◌∷◌, ◌++◌, length, refl, sym, ap, subst, ◌∙◌, arith, append_assoc, inl, inr, Ok}
-use Rattle.std.proofs.lemmas.Bool.{eqb-true, both_ways, not-true, not_from_false, and_parts, or_cases, or_from}
-use Rattle.std.proofs.lemmas.List.{length-append}
-use Rattle.std.specs.Prelude.{codes}
-use Rattle.std.specs.List.{take_while, flat_map}
-use Rattle.bib_spec.specs.Text.{Text, is_space, is_type_byte, same, does_not_begin_with, after_run}
-use Rattle.bib_spec.specs.Clean.{begins_command, opens_body}
-use Rattle.bib_spec.specs.Tree.{Entry, Definition, Preamble, Head, Opening, Delimiter, Tree, CommentTree, DefinitionTree, PreambleTree, EntryTree, value_bytes, assignment_bytes, row_bytes, last_comma_bytes, open_byte, close_byte, head_bytes, opening_bytes, after_key_bytes, tree_bytes, is_comment, goes_on_key, is_no_keyword, IsSpace, IsHead, IsOpening, IsDefinition, IsPreamble, IsEntry, IsTree}
-use Rattle.bib_scan.specs.LeftToRight.{read_value, read_row, read_entry, read_definition, read_preamble, delimiter_of, read_body, read_command}
+use Rattle.bib_scan.proofs.Words.{◌≡◌, ℕ, ◌<◌, Bool, true, false, ◌||◌, eqb, [], ◌∷◌, ◌++◌, length, refl, sym, ap, subst, ◌∙◌, arith, append_assoc, inl, inr, Ok, eqb-true, both_ways, not-true, not_from_false, and_parts, or_cases, or_from, length-append, codes, take_while, flat_map, Text, is_space}
+use Rattle.bib_scan.proofs.Words.{is_type_byte, same, does_not_begin_with, after_run, begins_command, opens_body, Entry, Definition, Preamble, Head, Opening, Delimiter, Tree, CommentTree, DefinitionTree, PreambleTree, EntryTree, value_bytes, assignment_bytes, row_bytes, last_comma_bytes, open_byte}
+use Rattle.bib_scan.proofs.Words.{close_byte, head_bytes, opening_bytes, after_key_bytes, tree_bytes, goes_on_key, is_no_keyword, IsSpace, IsHead, IsOpening, IsDefinition, IsPreamble, IsEntry, IsTree, read_value, read_row, read_entry, read_definition, read_preamble, delimiter_of, read_body}
+use Rattle.bib_scan.proofs.Words.{read_command}
+use Rattle.bib_spec.specs.Tree.{is_comment}
 use Rattle.bib_scan.proofs.RunLaws.{bind_ok, chosen, ok_same, run_split, run_passes, run_stops, limited_ok}
 use Rattle.bib_scan.proofs.PartLaws.{type_name_from}
 use Rattle.bib_scan.proofs.ValueLaws.{Stands, space_split, value_ok}

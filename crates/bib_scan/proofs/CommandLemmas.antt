@@ -1,11 +1,5 @@
 -- Steps of the search for the next command.
-use Rattle.std.proofs.Common.{◌≡◌, ℕ, zero, suc, ◌+◌, ◌<◌, ◌≤◌, true, false, eqb, [], ◌∷◌, length, get_or, drop, refl, sym, ap, subst, ◌∙◌, arith, None, Some}
-use Rattle.std.proofs.lemmas.List.{drop-drop, drop_more, drop_all, length-drop}
-use Rattle.std.proofs.lemmas.Bool.{false_from_ne_true, and_left}
-use Rattle.memchr.specs.Find.{IsFirstByte, is_byte}
-use Rattle.bib_spec.specs.Text.{Text}
-use Rattle.bib_spec.specs.Clean.{begins_command}
-use Rattle.bib_scan.specs.LeftToRight.{next_command}
+use Rattle.bib_scan.proofs.Words.{◌≡◌, ℕ, zero, suc, ◌+◌, ◌<◌, ◌≤◌, true, false, eqb, [], ◌∷◌, length, get_or, drop, refl, sym, ap, subst, ◌∙◌, arith, None, Some, drop-drop, drop_more, drop_all, length-drop, false_from_ne_true, and_left, IsFirstByte, is_byte, Text, begins_command, next_command}
 
 -- no command begins before `at`
 pub record NoneUpTo (t : Text) (at : ℕ) : Type 0 where

@@ -1,13 +1,6 @@
 -- A refused file goes wrong where reading stops, and nowhere else.
-use Rattle.std.proofs.Common.{◌≡◌, ℕ, ◌+◌, ◌-◌, ◌<◌, false, [], ◌∷◌, ◌++◌, length, take, refl, sym, ap, subst, ◌∙◌, arith, append_assoc, append-nil, inl, inr, Result, Ok, Err}
-use Rattle.std.proofs.lemmas.Bool.{cases_Bool, or_from, not_from_false}
-use Rattle.std.proofs.lemmas.List.{append_cancel_right}
-use Rattle.std.specs.Prelude.{codes}
-use Rattle.bib_spec.specs.Text.{Text, same}
-use Rattle.bib_spec.specs.Tree.{Delimiter, close_byte}
-use Rattle.bib_spec.specs.Reading.{HasReadingWithin, IsViable, FailsAt}
-use Rattle.bib_scan.specs.Layout.{places_of}
-use Rattle.bib_scan.specs.LeftToRight.{Halt, stop, read_definition, read_preamble, read_entry, read_all_commands, ◌>>=◌}
+use Rattle.bib_scan.proofs.Words.{◌≡◌, ℕ, ◌+◌, ◌-◌, ◌<◌, false, [], ◌∷◌, ◌++◌, length, take, refl, sym, ap, subst, ◌∙◌, arith, append_assoc, append-nil, inl, inr, Result, Ok, Err, cases_Bool, or_from, not_from_false, append_cancel_right, codes, Text, same, Delimiter, close_byte, HasReadingWithin}
+use Rattle.bib_scan.proofs.Words.{IsViable, FailsAt, places_of, Halt, stop, read_definition, read_preamble, read_entry, read_all_commands, ◌>>=◌}
 use Rattle.bib_scan.proofs.RunLaws.{bind_ok, ok_same, not_ok}
 use Rattle.bib_scan.proofs.TreeAgainLaws.{closes, string_body, preamble_body, entry_body}
 use Rattle.bib_scan.proofs.ReadingLaws.{reading_again}

@@ -1,17 +1,8 @@
 -- The fields that are read from left to right are the fields of the tree.
-use Rattle.std.proofs.Common.{◌≡◌, ℕ, zero, suc, ◌-◌, ◌<◌, ◌≤◌, true, false, eqb, List, [], ◌∷◌, ◌++◌, length, refl, sym, ap, subst, ◌∙◌, arith, append_assoc, Option, None, Some, Ok}
-use Rattle.std.proofs.lemmas.Bool.{ne_eqb, not_from_false, both_ways, and_left}
-use Rattle.std.proofs.lemmas.List.{length-append}
-use Rattle.std.proofs.lemmas.List.Elements.{All-head, All-tail}
-use Rattle.std.specs.List.{flat_map, All}
-use Rattle.std.specs.Result.{result_ok}
-use Rattle.bib_spec.specs.Bytes.{name_limit}
-use Rattle.bib_spec.specs.Text.{Text, is_space, after_run}
-use Rattle.bib_spec.specs.Tree.{Assignment, Row, Value, value_bytes, row_bytes, IsAssignment, IsRow, IsLastComma, IsValue, IsSpace}
-use Rattle.bib_scan.specs.LeftToRight.{Read, read_assignment, read_value, begins_name}
-use Rattle.bib_scan.specs.View.{Field, field_after, fields_after}
-use Rattle.bib_scan.specs.FieldsLeft.{read_field, first_field, first_and_others, kind_after, fields_left, all_fields_left}
-use Rattle.bib_scan.specs.declared.view.Kind.{Kind}
+use Rattle.bib_scan.proofs.Words.{◌≡◌, ℕ, zero, suc, ◌-◌, ◌<◌, ◌≤◌, true, false, eqb, List, [], ◌∷◌, ◌++◌, length, refl, sym, ap, subst, ◌∙◌, arith, append_assoc, Option, None, Some, Ok, ne_eqb, not_from_false, both_ways, and_left, length-append, All-head, All-tail, flat_map, All, result_ok}
+use Rattle.bib_scan.proofs.Words.{name_limit, Text, is_space, after_run, Assignment, Row, Value, value_bytes, row_bytes, IsAssignment, IsRow, IsLastComma, IsValue, IsSpace, Read, read_assignment, read_value, begins_name, Field, field_after, fields_after, first_field, first_and_others, kind_after}
+use Rattle.bib_scan.proofs.Words.{fields_left, all_fields_left, Kind}
+use Rattle.bib_scan.specs.FieldsLeft.{read_field}
 use Rattle.bib_scan.specs.declared.view.Kind.TheVariants as kind
 use Rattle.bib_scan.proofs.ValueLaws.{skip_space}
 use Rattle.bib_scan.proofs.RowLaws.{assignment_inside, row_shape}

@@ -1,7 +1,7 @@
 -- The first place whose byte passes a test, from the list of all such places.
-use Rattle.std.proofs.Common.{◌≡◌, ℕ, zero, suc, ◌+◌, ◌-◌, Bool, true, false, List, [], ◌∷◌, length, get_or, Option, None, Some, sym, ap, subst, ◌∙◌, arith, ⊎_elim}
-use Rattle.std.proofs.lemmas.Bool.{cases_Bool, cases_eq, cond-true, cond-false, both_ways}
-use Rattle.memchr.specs.Find.{IsFirstByte, NoneBefore, Nowhere, Passes, TakesFirst, places, places_from}
+use Rattle.bib_scan.proofs.Words.{◌≡◌, ℕ, zero, suc, ◌+◌, ◌-◌, Bool, true, false, List, [], ◌∷◌, length, get_or, Option, None, Some, sym, ap, subst, ◌∙◌, arith, cases_Bool, cases_eq, cond-true, cond-false, both_ways, IsFirstByte, NoneBefore, Nowhere}
+use Rattle.std.proofs.Common.{⊎_elim}
+use Rattle.memchr.specs.Find.{Passes, TakesFirst, places, places_from}
 
 module _ (test : ℕ → Bool) (hay : List ℕ) where
   -- a place that passes is the first of the list

@@ -1,10 +1,7 @@
 -- Readings that are joined.
-use Rattle.std.proofs.Common.{◌≡◌, [], ◌++◌, sym, ◌∙◌, ap, ap₂, append_assoc}
+use Rattle.bib_scan.proofs.Words.{◌≡◌, [], ◌++◌, sym, ◌∙◌, ap, ap₂, append_assoc, flat_map, name_limit, Reading, IsItem, item_bytes, bytes_of}
 use Rattle.std.proofs.lemmas.List.Concat.{flat_map-append}
 use Rattle.std.proofs.lemmas.List.Elements.{All-append}
-use Rattle.std.specs.List.{flat_map}
-use Rattle.bib_spec.specs.Bytes.{name_limit}
-use Rattle.bib_spec.specs.Reading.{Reading, IsItem, item_bytes, bytes_of}
 use Rattle.bib_scan.specs.Laws.{both, JoinedReadings}
 
 bytes_of_both : (db next : Reading) → next.front ≡ [] → bytes_of (both db next) ≡ bytes_of db ++ bytes_of next

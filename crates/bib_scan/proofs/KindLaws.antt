@@ -1,14 +1,9 @@
 -- The fault at which reading stops is what is wrong there.
-use Rattle.std.proofs.Common.{◌≡◌, ℕ, suc, ◌+◌, ◌-◌, ◌<◌, ◌≤◌, false, [], ◌∷◌, ◌++◌, length, refl, sym, ap, subst, ◌∙◌, arith, append_assoc, append-nil, inl, inr, Result, Ok, Err}
-use Rattle.std.proofs.lemmas.List.{length-append}
-use Rattle.std.specs.Prelude.{codes}
-use Rattle.bib_spec.specs.Bytes.{digit_one, letter_x, name_limit, file_limit}
-use Rattle.bib_spec.specs.Text.{Text, same}
-use Rattle.bib_spec.specs.Tree.{Delimiter, close_byte}
-use Rattle.bib_spec.specs.Reading.{HasReadingWithin, IsViable}
-use Rattle.bib_spec.specs.Fault.{TextKind, MayStand, IsOneTooLong, IsFaultAt, IsReadFault, fault_number, ReadingFault, Unended, ExpectedName, ExpectedEquals, ExpectedCommaOrClose, ExpectedValue, UnbalancedBrace, KeyTooLong}
+use Rattle.bib_scan.proofs.Words.{◌≡◌, ℕ, suc, ◌+◌, ◌-◌, ◌<◌, ◌≤◌, false, [], ◌∷◌, ◌++◌, length, refl, sym, ap, subst, ◌∙◌, arith, append_assoc, append-nil, inl, inr, Result, Ok, Err, length-append, codes, digit_one, letter_x, name_limit, Text, same, Delimiter, close_byte, HasReadingWithin}
+use Rattle.bib_scan.proofs.Words.{IsViable, TextKind, MayStand, IsOneTooLong, IsFaultAt, IsReadFault, ReadingFault, Unended, ExpectedName, ExpectedEquals, ExpectedCommaOrClose, ExpectedValue, UnbalancedBrace, KeyTooLong, Halt, stop, read_all_commands, ◌>>=◌}
+use Rattle.bib_spec.specs.Bytes.{file_limit}
+use Rattle.bib_spec.specs.Fault.{fault_number}
 use Rattle.bib_spec.specs.Fault as fault
-use Rattle.bib_scan.specs.LeftToRight.{Halt, stop, read_all_commands, ◌>>=◌}
 use Rattle.bib_scan.proofs.LocalLaws.{rest_of}
 use Rattle.bib_scan.proofs.LocalRows.{plain, ready, fault_of}
 use Rattle.bib_scan.proofs.PlaceLaws.{front_cut, front_more}

@@ -1,18 +1,12 @@
 -- The places of a reading: where the bytes of each item lie in the file.
-use Rattle.std.proofs.Common.{◌≡◌, ℕ, ◌+◌, ◌-◌, ◌<◌, ◌≤◌, List, [], ◌∷◌, ◌++◌, length, get_or, take, drop, refl, sym, ap, subst, ◌∙◌, arith, append_assoc, inl, inr, Option, None, Some}
-use Rattle.std.proofs.lemmas.List.{length-map, length-append, take-append-drop, take_at, drop_at, drop_all, drop_more, drop-drop}
+use Rattle.bib_scan.proofs.Words.{◌≡◌, ℕ, ◌+◌, ◌-◌, ◌<◌, ◌≤◌, List, [], ◌∷◌, ◌++◌, length, get_or, take, drop, refl, sym, ap, subst, ◌∙◌, arith, append_assoc, inl, inr, Option, None, Some, length-map, length-append, take-append-drop, take_at, drop_at, drop_all, drop_more, drop-drop}
+use Rattle.bib_scan.proofs.Words.{slice_get-get_or, slice_get_within, get_or_from_slice_get, enumerate_from, flat_map, name_limit, Text, CommentTree, tree_bytes, Item, Reading, item_bytes, Reads, Span, span, Places, start_of, span_of, places_of, trail_end, IsLayoutOf}
 use Rattle.std.proofs.lemmas.List.FromFn.{length-enumerate_from, get_or-enumerate_from}
 use Rattle.std.proofs.lemmas.Grind.{flat_map-append}
-use Rattle.std.proofs.lemmas.Option.{slice_get-map, slice_get-get_or, slice_get_within, slice_get_cases, get_or_from_slice_get}
+use Rattle.std.proofs.lemmas.Option.{slice_get-map, slice_get_cases}
 use Rattle.std.specs.Option.{option_map}
-use Rattle.std.specs.List.{enumerate_from, flat_map, slice_get}
-use Rattle.bib_spec.specs.Bytes.{name_limit}
-use Rattle.bib_spec.specs.Text.{Text}
-use Rattle.bib_spec.specs.Tree.{CommentTree, tree_bytes}
-use Rattle.bib_spec.specs.Reading.{Item, Reading, item_bytes, Reads}
-use Rattle.bib_scan.specs.declared.layout.Span.{Span}
-use Rattle.bib_scan.specs.LeftToRight.{span}
-use Rattle.bib_scan.specs.Layout.{Places, start_of, span_of, places_of, start_or, trail_end, IsLayoutOf}
+use Rattle.std.specs.List.{slice_get}
+use Rattle.bib_scan.specs.Layout.{start_or}
 use Rattle.bib_scan.proofs.ReadingLaws.{start_more}
 use Rattle.bib_scan.proofs.OneReading.{one_reading}
 

@@ -1,10 +1,6 @@
 -- Steps of the reader of a whole text.
-use Rattle.std.proofs.Common.{◌≡◌, ℕ, zero, suc, ◌+◌, ◌-◌, ◌<◌, List, [], ◌∷◌, ◌++◌, length, drop, refl, sym, ap, ◌∙◌, arith, append_assoc, append-nil, Result, Ok, Err}
-use Rattle.std.proofs.lemmas.List.{length-drop}
-use Rattle.bib_spec.specs.Text.{Text}
-use Rattle.bib_scan.specs.declared.layout.Span.{Span}
-use Rattle.bib_scan.specs.LeftToRight.{Halt, span, read_command, next_command, read_commands, read_all_commands}
-use Rattle.bib_scan.specs.ReadSoFar.{with_spans, CommandsOn}
+use Rattle.bib_scan.proofs.Words.{◌≡◌, ℕ, zero, suc, ◌+◌, ◌-◌, ◌<◌, List, [], ◌∷◌, ◌++◌, length, drop, refl, sym, ap, ◌∙◌, arith, append_assoc, append-nil, Result, Ok, Err, length-drop, Text, Span, Halt, span, read_command, next_command, read_commands, read_all_commands, CommandsOn}
+use Rattle.bib_scan.specs.ReadSoFar.{with_spans}
 
 with_spans-nil : (r : Result (List Span) Halt) → with_spans [] r ≡ r
 with_spans-nil (Ok x) = refl

@@ -1,4 +1,5 @@
 -- ---- the readers, step by step
+pub mod Words
 pub mod BalanceLaws
 pub mod MaskLemmas
 pub mod MarkLemmas

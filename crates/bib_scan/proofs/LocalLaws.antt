@@ -1,14 +1,6 @@
 -- A reader does not depend on any byte after the first byte that it leaves.
-use Rattle.std.proofs.Common.{◌≡◌, ℕ, ◌+◌, ◌<◌, Bool, true, false, cond, ltb, [], ◌∷◌, ◌++◌, length, get_or, take, drop, refl, sym, ap, subst, ◌∙◌, arith, append_assoc, append-nil, Ok, Err}
-use Rattle.std.proofs.lemmas.Bool.{ltb-true, lt-ltb, cond-true, cond-false}
-use Rattle.std.proofs.lemmas.List.{take-append-drop, take-take, get_or-drop, drop_at, length-take-le}
-use Rattle.std.proofs.lemmas.List.Elements.{All-head, All-tail, All-take}
-use Rattle.std.proofs.lemmas.List.Sums.{prefix_len_passes, prefix_len-le-length}
-use Rattle.std.specs.List.{prefix_len, take_while, AllPass}
-use Rattle.bib_spec.specs.Fault.{ReadingFault}
-use Rattle.bib_spec.specs.Fault.{Unended, KeyTooLong}
-use Rattle.bib_spec.specs.Text.{Text, does_not_begin_with, after_run}
-use Rattle.bib_scan.specs.LeftToRight.{Read, stop, expected, read_run, ◌>>=◌}
+use Rattle.bib_scan.proofs.Words.{◌≡◌, ℕ, ◌+◌, ◌<◌, Bool, true, false, cond, ltb, [], ◌∷◌, ◌++◌, length, get_or, take, drop, refl, sym, ap, subst, ◌∙◌, arith, append_assoc, append-nil, Ok, Err, ltb-true, lt-ltb, cond-true, cond-false, take-append-drop, take-take, get_or-drop, drop_at}
+use Rattle.bib_scan.proofs.Words.{length-take-le, All-head, All-tail, All-take, prefix_len_passes, prefix_len-le-length, prefix_len, take_while, AllPass, ReadingFault, Unended, KeyTooLong, Text, does_not_begin_with, after_run, Read, stop, expected, read_run, ◌>>=◌}
 use Rattle.bib_scan.proofs.RunLaws.{run_split, run_passes, run_stops, run_front, run_rest, limited_ok, limited_again, cons_nil}
 
 -- the text that a reader left, and its answer with other bytes in place of that text

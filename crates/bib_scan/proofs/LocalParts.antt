@@ -1,11 +1,7 @@
 -- Locality of the readers of parts and values.
-use Rattle.std.proofs.Common.{◌≡◌, ℕ, ◌+◌, ◌-◌, Bool, false, cond, eqb, [], ◌∷◌, refl, sym, ap, subst, ◌∙◌, inl, inr, Ok, Err}
-use Rattle.std.proofs.lemmas.Bool.{cases_eq, or_from, ne_eqb}
-use Rattle.std.specs.Char.{is_ascii_digit}
-use Rattle.bib_spec.specs.Fault.{Unended, UnbalancedBrace, ExpectedValue, ExpectedName}
-use Rattle.bib_spec.specs.Text.{Text, is_name_byte}
-use Rattle.bib_spec.specs.Tree.{Part, Braced, Quoted, Digits, Macro}
-use Rattle.bib_scan.specs.LeftToRight.{Read, stop, expected, read_run, with_front, read_braced, read_quoted, begins_name, read_name, read_part, ◌>>=◌}
+use Rattle.bib_scan.proofs.Words.{◌≡◌, ℕ, ◌+◌, ◌-◌, Bool, false, cond, eqb, [], ◌∷◌, refl, sym, ap, subst, ◌∙◌, inl, inr, Ok, Err, cases_eq, or_from, ne_eqb, is_ascii_digit, Unended, UnbalancedBrace, ExpectedValue, ExpectedName, Text, is_name_byte, Part, Braced, Quoted, Macro, Read, stop, expected}
+use Rattle.bib_scan.proofs.Words.{read_run, with_front, read_braced, read_quoted, begins_name, read_name, read_part, ◌>>=◌}
+use Rattle.bib_spec.specs.Tree.{Digits}
 use Rattle.bib_scan.proofs.RunLaws.{cons_nil}
 use Rattle.bib_scan.proofs.BraceLemmas.{braced_takes, quoted_takes, braced_opens, braced_closes, braced_ends, braced_nil, quoted_opens, quoted_closes, quoted_ends, quoted_inside, quoted_unbalanced, quoted_nil}
 use Rattle.bib_scan.proofs.BraceLaws.{plain_byte}

@@ -1,18 +1,13 @@
 -- Locality of the readers of values, rows and entries.
-use Rattle.std.proofs.Common.{◌≡◌, ℕ, zero, suc, ◌+◌, ◌-◌, ◌<◌, ◌≤◌, Bool, true, false, cond, eqb, [], ◌∷◌, ◌++◌, length, take, refl, sym, ap, subst, ◌∙◌, arith, Option, None, Some, Result, Ok, Err}
-use Rattle.std.proofs.lemmas.List.{append_cancel_right, length-append, length-drop}
-use Rattle.std.specs.List.{prefix_len}
-use Rattle.bib_spec.specs.Fault.{ExpectedEquals, ExpectedCommaOrClose}
-use Rattle.bib_spec.specs.Text.{Text, is_space, after_run}
-use Rattle.bib_spec.specs.Tree.{Delimiter, close_byte, goes_on_key}
-use Rattle.bib_scan.specs.LeftToRight.{Read, Halt, stop, expected, read_run, read_name, read_equals, read_part, past_hash, go_on, read_links, read_value_rest, read_value, read_assignment, read_row, past_byte, read_comma, read_close, read_rows, read_all_rows, read_entry, read_definition, read_preamble, ◌>>=◌}
+use Rattle.bib_scan.proofs.Words.{◌≡◌, ℕ, zero, suc, ◌+◌, ◌-◌, ◌<◌, ◌≤◌, Bool, true, false, cond, eqb, [], ◌∷◌, ◌++◌, length, take, refl, sym, ap, subst, ◌∙◌, arith, Option, None, Some, Result, Ok, Err, append_cancel_right, length-append, length-drop, prefix_len, ExpectedEquals}
+use Rattle.bib_scan.proofs.Words.{ExpectedCommaOrClose, Text, is_space, after_run, Delimiter, close_byte, goes_on_key, Read, Halt, stop, expected, read_run, read_name, read_equals, read_part, past_hash, go_on, read_links, read_value_rest, read_value, read_assignment, read_row, past_byte, read_comma}
+use Rattle.bib_scan.proofs.Words.{read_close, read_rows, read_all_rows, read_entry, read_definition, read_preamble, ◌>>=◌, All-nil}
 use Rattle.bib_scan.proofs.RunLaws.{not_ok, run_stops}
 use Rattle.bib_scan.proofs.PartLaws.{part_len}
 use Rattle.bib_scan.proofs.ValueLaws.{joined_ok, skip_space}
 use Rattle.bib_scan.proofs.RowLaws.{row_shorter, comma_ok}
 use Rattle.bib_scan.proofs.LocalLaws.{rest_of, with_rest, LocalAt, Local, local_bind, local_same, local_cond, after_first, local_beyond, local_ok, local_expected, run, local_run, local_limited}
 use Rattle.bib_scan.proofs.LocalParts.{first_is, local_part, local_name}
-use Rattle.std.proofs.lemmas.List.Elements.{All-nil}
 
 -- a reader that gives only the text after what it read
 abbrev pub ready : Text → Read (Unit {0})

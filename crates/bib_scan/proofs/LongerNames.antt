@@ -1,11 +1,8 @@
 -- Trees of the grammar with names and keys up to a limit are trees of the grammar with a higher limit, too.
-use Rattle.std.proofs.Common.{ℕ, ◌≤◌, List, [], ◌∷◌, arith}
-use Rattle.std.proofs.lemmas.List.Elements.{All-nil, All-cons, All-head, All-tail}
-use Rattle.std.specs.List.{All}
+use Rattle.bib_scan.proofs.Words.{ℕ, ◌≤◌, List, [], ◌∷◌, arith, All-nil, All-cons, All-head, All-tail, All, Text, is_name_within, Part, Braced, Quoted, Macro, Link, Value, Assignment, Row, Tree, CommentTree, DefinitionTree, PreambleTree, EntryTree, IsPart, IsLink, IsValue, IsAssignment, IsRow}
+use Rattle.bib_scan.proofs.Words.{IsTree, Item, IsItem}
 use Rattle.std.specs.Prelude.{IsTrue}
-use Rattle.bib_spec.specs.Text.{Text, is_name_within}
-use Rattle.bib_spec.specs.Tree.{Part, Braced, Quoted, Digits, Macro, Link, Value, Assignment, Row, Tree, CommentTree, DefinitionTree, PreambleTree, EntryTree, IsPart, IsLink, IsValue, IsAssignment, IsRow, IsTree}
-use Rattle.bib_spec.specs.Reading.{Item, IsItem}
+use Rattle.bib_spec.specs.Tree.{Digits}
 use Rattle.bib_scan.proofs.PartLaws.{name_parts, name_from}
 
 module _ (limit m : ℕ) (longer : limit ≤ m) where

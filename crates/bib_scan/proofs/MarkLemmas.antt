@@ -1,11 +1,6 @@
 -- Braces that were found ahead.
-use Rattle.std.proofs.Common.{◌≡◌, ◌↔◌, ℕ, ◌+◌, ◌-◌, ◌<◌, ◌≤◌, length, sym, subst, arith, inl, inr}
-use Rattle.std.specs.Int.{bit_at}
-use Rattle.std.proofs.lemmas.Bool.{cases_lt}
+use Rattle.bib_scan.proofs.Words.{◌≡◌, ◌↔◌, ℕ, ◌+◌, ◌-◌, ◌<◌, ◌≤◌, length, sym, subst, arith, inl, inr, bit_at, cases_lt, Nowhere, Text, IsBraceAt, IsMarked}
 use Rattle.std.proofs.lemmas.Nat.Bits.{bit_at-zero}
-use Rattle.memchr.specs.Find.{Nowhere}
-use Rattle.bib_spec.specs.Text.{Text}
-use Rattle.bib_scan.specs.Braces.{IsBraceAt, IsMarked}
 use Rattle.bib_scan.specs.declared.braces.Marked.{Marked}
 
 module _ (t : Text) (at : ℕ) where

@@ -1,12 +1,10 @@
 -- Bits of a mask, and the braces among 32 bytes.
-use Rattle.std.proofs.Common.{◌≡◌, ◌↔◌, ℕ, zero, suc, ◌-◌, ◌/◌, ◌%◌, ◌^◌, ◌<◌, ◌≤◌, Bool, true, false, ◌||◌, cond, eqb, List, [], ◌∷◌, map, length, get_or, replicate, bit_and, bit_or, refl, sym, ap, subst, ◌∙◌, arith, inl, inr}
-use Rattle.std.specs.Int.{bit_at}
+use Rattle.bib_scan.proofs.Words.{◌≡◌, ◌↔◌, ℕ, zero, suc, ◌-◌, ◌<◌, ◌≤◌, Bool, true, false, ◌||◌, cond, eqb, List, [], ◌∷◌, map, length, get_or, bit_and, refl, sym, ap, subst, ◌∙◌, arith, inl, inr, bit_at, cases_lt, cases_eq, length-map, is_byte2}
+use Rattle.std.proofs.Common.{◌/◌, ◌%◌, ◌^◌, replicate, bit_or}
 use Rattle.std.specs.Simd.Lanes.{zip2, mask_l, top}
-use Rattle.std.proofs.lemmas.Bool.{cases_lt, cases_eq}
-use Rattle.std.proofs.lemmas.List.{get_or-map, get_or_past, length-map}
+use Rattle.std.proofs.lemmas.List.{get_or-map, get_or_past}
 use Rattle.std.proofs.lemmas.Nat.Bits.{bit_at_lowest, bit_at-suc, bit_at-lt, bit_at_and}
 use Rattle.std.proofs.lemmas.Simd.{bit_mask_l, mask_l-mod, zip2_splat, zip2_of_maps}
-use Rattle.memchr.specs.Find.{is_byte2}
 
 -- m - 1 has the bits of m above any bit that is set
 above_set : (j k m : ℕ) → j < k → bit_at m j ≡ 1 → bit_at (m - 1) k ≡ bit_at m k

@@ -1,10 +1,6 @@
 -- If reading stops, some bytes in place of the rest let it continue to the end.
-use Rattle.std.proofs.Common.{◌≡◌, ℕ, zero, suc, ◌+◌, ◌-◌, ◌<◌, Bool, true, false, cond, [], ◌∷◌, ◌++◌, length, refl, sym, ap, subst, ◌∙◌, arith, append_assoc, inl, inr, Result, Ok, Err}
-use Rattle.std.proofs.lemmas.List.{length-append}
-use Rattle.std.proofs.lemmas.Bool.{cases_eq, or_from, ne_eqb, cond-true, cond-false, both_ways}
-use Rattle.bib_spec.specs.Fault.{Unended, UnbalancedBrace}
-use Rattle.bib_spec.specs.Text.{Text}
-use Rattle.bib_scan.specs.LeftToRight.{Read, Halt, stop, with_front, read_braced, read_quoted, ◌>>=◌}
+use Rattle.bib_scan.proofs.Words.{◌≡◌, ℕ, zero, suc, ◌+◌, ◌-◌, ◌<◌, Bool, true, false, cond, [], ◌∷◌, ◌++◌, length, refl, sym, ap, subst, ◌∙◌, arith, append_assoc, inl, inr, Result, Ok, Err, length-append, cases_eq, or_from, ne_eqb, cond-true, cond-false, both_ways, Unended, UnbalancedBrace, Text}
+use Rattle.bib_scan.proofs.Words.{Read, Halt, stop, with_front, read_braced, read_quoted, ◌>>=◌}
 use Rattle.bib_scan.proofs.RunLaws.{not_ok, cons_nil, append_nil-second}
 use Rattle.bib_scan.proofs.BraceLemmas.{braced_takes, quoted_takes, braced_opens, braced_closes, braced_ends, braced_nil, quoted_opens, quoted_closes, quoted_ends, quoted_inside, quoted_unbalanced, quoted_nil}
 use Rattle.bib_scan.proofs.BraceLaws.{plain_byte}

@@ -1,15 +1,9 @@
 -- Bytes that can follow where the reading of a value or a row stops.
-use Rattle.std.proofs.Common.{◌≡◌, ℕ, zero, suc, ◌<◌, Bool, true, false, cond, eqb, ltb, [], ◌∷◌, ◌++◌, length, get_or, take, drop, refl, sym, ap, subst, ◌∙◌, arith, append_assoc, inl, inr, Ok, Err}
-use Rattle.std.proofs.lemmas.List.{append_cancel_right, length-append, get_or-drop, take-append-drop, take-take, length-take-le}
-use Rattle.std.proofs.lemmas.List.Sums.{prefix_len_passes, prefix_len-le-length}
-use Rattle.std.proofs.lemmas.List.Elements.{All-nil, All-cons, All-take}
-use Rattle.std.proofs.lemmas.Bool.{ltb-true, and_parts, eqb-true, cond-false, not_from_false, and_from}
-use Rattle.std.specs.List.{prefix_len, take_while, flat_map, AllPass}
-use Rattle.std.specs.Char.{is_ascii_digit}
-use Rattle.bib_spec.specs.Fault.{Unended, ExpectedName, ExpectedEquals, ExpectedValue, KeyTooLong}
-use Rattle.bib_spec.specs.Text.{Text, is_space, is_name_within, is_name_byte, does_not_begin_with, after_run}
-use Rattle.bib_spec.specs.Tree.{Part, Braced, Quoted, Digits, Macro, part_bytes, Value, link_bytes, value_bytes, IsPart, IsValue}
-use Rattle.bib_scan.specs.LeftToRight.{Read, Halt, stop, expected, read_run, read_braced, read_quoted, begins_name, read_name, read_equals, read_part, read_links, read_value, read_row, ◌>>=◌}
+use Rattle.bib_scan.proofs.Words.{◌≡◌, ℕ, zero, suc, ◌<◌, Bool, true, false, cond, eqb, ltb, [], ◌∷◌, ◌++◌, length, get_or, take, drop, refl, sym, ap, subst, ◌∙◌, arith, append_assoc, inl, inr, Ok, Err, append_cancel_right, length-append, get_or-drop, take-append-drop, take-take, length-take-le}
+use Rattle.bib_scan.proofs.Words.{prefix_len_passes, prefix_len-le-length, All-nil, All-cons, All-take, ltb-true, and_parts, eqb-true, cond-false, not_from_false, and_from, prefix_len, take_while, flat_map, AllPass, is_ascii_digit, Unended, ExpectedName, ExpectedEquals, ExpectedValue, KeyTooLong}
+use Rattle.bib_scan.proofs.Words.{Text, is_space, is_name_within, is_name_byte, does_not_begin_with, after_run, Part, Braced, Quoted, Macro, part_bytes, Value, link_bytes, value_bytes, IsPart, IsValue, Read, Halt, stop, expected, read_run, read_braced, read_quoted, begins_name, read_name}
+use Rattle.bib_scan.proofs.Words.{read_equals, read_part, read_links, read_value, read_row, ◌>>=◌}
+use Rattle.bib_spec.specs.Tree.{Digits}
 use Rattle.bib_scan.proofs.RunLaws.{bind_ok, ok_same, not_ok, chosen, run_split, run_passes, run_front, run_rest, limited_ok, limited_again, cons_nil}
 use Rattle.bib_scan.proofs.PartLaws.{AfterPart, part_ok, part_again, name_parts, name_from, name_ok, name_again}
 use Rattle.bib_scan.proofs.ValueLaws.{Stands, space_split, skip_space, links_ok}

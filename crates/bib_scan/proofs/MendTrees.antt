@@ -1,14 +1,8 @@
 -- Bytes that can follow where the reading of a command, or of a whole text, stops.
-use Rattle.std.proofs.Common.{◌≡◌, ℕ, zero, suc, ◌+◌, ◌<◌, Bool, true, false, cond, eqb, List, [], ◌∷◌, ◌++◌, length, refl, sym, ap, subst, ◌∙◌, arith, append_assoc, append-nil, inl, inr, ◌⊎◌, Option, None, Some, Result, Ok, Err}
-use Rattle.std.proofs.lemmas.List.{append_cancel_right, length-append}
-use Rattle.std.proofs.lemmas.List.Elements.{All-nil, All-cons, All-push}
+use Rattle.bib_scan.proofs.Words.{◌≡◌, ℕ, zero, suc, ◌+◌, ◌<◌, Bool, true, false, cond, eqb, List, [], ◌∷◌, ◌++◌, length, refl, sym, ap, subst, ◌∙◌, arith, append_assoc, append-nil, inl, inr, ◌⊎◌, Option, None, Some, Result, Ok, Err, append_cancel_right, length-append, All-nil, All-cons, All-push}
+use Rattle.bib_scan.proofs.Words.{not_from_false, take_while, flat_map, All, Unended, ExpectedCommaOrClose, Text, is_space, does_not_begin_with, after_run, Row, IsRow, IsSpace, IsLastComma, value_bytes, last_comma_bytes, Delimiter, Brace, Paren, close_byte, goes_on_key, row_bytes, Read, Halt, stop}
+use Rattle.bib_scan.proofs.Words.{read_run, past_byte, read_comma, read_close, go_on, read_row, read_rows, read_all_rows, read_entry, read_definition, read_preamble, read_value, ◌>>=◌}
 use Rattle.std.proofs.lemmas.List.Concat.{flat_map-append}
-use Rattle.std.proofs.lemmas.Bool.{not_from_false}
-use Rattle.std.specs.List.{take_while, flat_map, All}
-use Rattle.bib_spec.specs.Fault.{Unended, ExpectedCommaOrClose}
-use Rattle.bib_spec.specs.Text.{Text, is_space, does_not_begin_with, after_run}
-use Rattle.bib_spec.specs.Tree.{Row, IsRow, IsSpace, IsLastComma, value_bytes, last_comma_bytes, Delimiter, Brace, Paren, close_byte, goes_on_key, row_bytes}
-use Rattle.bib_scan.specs.LeftToRight.{Read, Halt, stop, read_run, past_byte, read_comma, read_close, go_on, read_row, read_rows, read_all_rows, read_entry, read_definition, read_preamble, read_value, ◌>>=◌}
 use Rattle.bib_scan.proofs.RunLaws.{bind_ok, ok_same, not_ok, run_passes, limited_again}
 use Rattle.bib_scan.proofs.ValueLaws.{Stands, skip_space, space_split, value_ok}
 use Rattle.bib_scan.proofs.RowLaws.{row_shorter, comma_ok, row_ok, row_inside, row_shape}

@@ -1,27 +1,13 @@
 -- The note that is taken from left to right is the note of the tree.
-use Rattle.std.proofs.Common.{◌≡◌, ℕ, ◌+◌, ◌-◌, ◌<◌, ◌≤◌, true, false, eqb, List, [], ◌∷◌, ◌++◌, length, take, drop, map, refl, sym, ap, subst, ◌∙◌, arith, append_assoc, append-nil, Option, Some, None, option_map, Result, inl, inr}
-use Rattle.std.proofs.lemmas.Bool.{cases_Bool, cond-true, cond-false, ne_eqb}
-use Rattle.std.proofs.lemmas.Option.{none-some, same_Some}
-use Rattle.std.proofs.lemmas.List.{length-append, length-drop, take_at, drop_at}
-use Rattle.std.specs.Prelude.{find, if◌then◌else◌}
-use Rattle.std.specs.Option.{option_map_or}
-use Rattle.std.specs.Result.{result_ok}
-use Rattle.bib_scan.specs.LeftToRight.{Halt}
-use Rattle.std.proofs.lemmas.List.Elements.{All-head, All-tail}
-use Rattle.std.specs.List.{prefix_len, flat_map, All}
-use Rattle.bib_spec.specs.Bytes.{comma, name_limit}
-use Rattle.bib_spec.specs.Text.{Text, is_space, is_type_byte, same, after_run, does_not_begin_with}
-use Rattle.bib_spec.specs.Records.{crossref}
+use Rattle.bib_scan.proofs.Words.{◌≡◌, ℕ, ◌+◌, ◌-◌, ◌<◌, ◌≤◌, true, false, eqb, List, [], ◌∷◌, ◌++◌, length, take, drop, map, refl, sym, ap, subst, ◌∙◌, arith, append_assoc, append-nil, Option, Some, None, Result, inl, inr, cases_Bool, cond-true, cond-false, ne_eqb, none-some, same_Some}
+use Rattle.bib_scan.proofs.Words.{length-append, length-drop, take_at, drop_at, find, option_map_or, result_ok, Halt, All-head, All-tail, prefix_len, flat_map, All, comma, name_limit, Text, is_space, is_type_byte, same, after_run, does_not_begin_with, crossref, Row, Tree, CommentTree}
+use Rattle.bib_scan.proofs.Words.{DefinitionTree, PreambleTree, EntryTree, Opening, Delimiter, close_byte, head_bytes, opening_bytes, after_key_bytes, last_comma_bytes, row_bytes, tree_bytes, goes_on_key, IsRow, IsLastComma, IsOpening, IsTree, Item, Reading, item_bytes, IsItem, Reads, Field}
+use Rattle.bib_scan.proofs.Words.{field_after, fields_after, view_of, read_row_field, first_field, all_fields_left, read_head, kind_named, read_opening, is_crossref, left_of_crossref, crossref_left, head_after, read_entry_head, note_from, read_note, note_at, places_of, Note, Kind}
+use Rattle.std.proofs.Common.{option_map}
+use Rattle.std.specs.Prelude.{if◌then◌else◌}
 use Rattle.bib_spec.specs.Tree as tree
-use Rattle.bib_spec.specs.Tree.{Row, Tree, CommentTree, DefinitionTree, PreambleTree, EntryTree, Opening, Delimiter, close_byte, head_bytes, opening_bytes, after_key_bytes, last_comma_bytes, row_bytes, tree_bytes, goes_on_key, IsRow, IsLastComma, IsOpening, IsTree}
-use Rattle.bib_spec.specs.Reading.{Item, Reading, item_bytes, IsItem, Reads}
-use Rattle.bib_scan.specs.View.{Field, field_after, fields_after, view_of}
-use Rattle.bib_scan.specs.FieldsLeft.{read_row_field, first_field, all_fields_left, read_head, kind_named, read_opening}
-use Rattle.bib_scan.specs.Note.{is_crossref, crossref_field, note_of}
-use Rattle.bib_scan.specs.NotesLeft.{left_of_crossref, crossref_left, place_left, entry_head, head_after, read_entry_head, note_from, read_note, note_at}
-use Rattle.bib_scan.specs.Layout.{places_of}
-use Rattle.bib_scan.specs.declared.note.Note.{Note}
-use Rattle.bib_scan.specs.declared.view.Kind.{Kind}
+use Rattle.bib_scan.specs.Note.{crossref_field, note_of}
+use Rattle.bib_scan.specs.NotesLeft.{place_left, entry_head}
 use Rattle.bib_scan.specs.declared.view.Kind.TheVariants as kind
 use Rattle.bib_scan.proofs.RunLaws.{run_len, run_rest}
 use Rattle.bib_scan.proofs.ValueLaws.{Stands}

@@ -1,26 +1,11 @@
 -- Steps of the reader of rows, for the place of the first row named `crossref`; and of the reader of a file, for its notes.
-use Rattle.std.proofs.Common.{◌≡◌, ℕ, zero, suc, ◌-◌, ◌<◌, ◌≤◌, Bool, true, false, List, [], ◌∷◌, ◌++◌, length, map, take, drop, append_assoc, refl, sym, ap, subst, ◌∙◌, arith, Option, None, Some, Ok, IfSome, inl, inr}
-use Rattle.std.proofs.lemmas.List.{length-append, length-drop, map-append, drop_at, take-append-drop}
-use Rattle.std.proofs.lemmas.Bool.{cond-true, cond-false}
-use Rattle.std.specs.Prelude.{find}
-use Rattle.std.specs.Option.{option_map_or}
-use Rattle.std.specs.List.{prefix_len}
-use Rattle.bib_spec.specs.Bytes.{name_limit}
-use Rattle.bib_spec.specs.Text.{Text, is_space, is_type_byte, same, after_run}
-use Rattle.bib_spec.specs.Clean.{begins_command}
-use Rattle.bib_spec.specs.Tree.{Delimiter, close_byte, tree_bytes}
-use Rattle.bib_spec.specs.Records.{crossref}
-use Rattle.bib_scan.specs.LeftToRight.{Assigned, read_comma, past_byte, read_assignment, read_command, next_command}
-use Rattle.bib_scan.specs.View.{Field}
-use Rattle.bib_scan.specs.FieldsLeft.{field_in, first_field, all_fields_left, read_head, kind_named, read_opening}
-use Rattle.bib_scan.specs.Note.{is_crossref}
-use Rattle.bib_scan.specs.NotesLeft.{left_of_crossref, crossref_left, head_after, read_entry_head, note_from, read_note, note_at}
-use Rattle.bib_scan.specs.declared.layout.Span.{Span}
-use Rattle.bib_scan.specs.declared.note.EntryHead.{EntryHead}
-use Rattle.bib_scan.specs.declared.note.Note.{Note}
-use Rattle.bib_scan.specs.declared.view.Kind.{Kind}
+use Rattle.bib_scan.proofs.Words.{◌≡◌, ℕ, zero, suc, ◌-◌, ◌<◌, ◌≤◌, Bool, true, false, List, [], ◌∷◌, ◌++◌, length, map, take, drop, append_assoc, refl, sym, ap, subst, ◌∙◌, arith, Option, None, Some, Ok, inl, inr, length-append, length-drop, drop_at, take-append-drop, cond-true, cond-false, find}
+use Rattle.bib_scan.proofs.Words.{option_map_or, prefix_len, name_limit, Text, is_space, is_type_byte, same, after_run, begins_command, Delimiter, close_byte, tree_bytes, crossref, Assigned, read_comma, past_byte, read_assignment, read_command, next_command, Field, first_field, all_fields_left}
+use Rattle.bib_scan.proofs.Words.{read_head, kind_named, read_opening, is_crossref, left_of_crossref, crossref_left, head_after, read_entry_head, note_from, read_note, note_at, Span, EntryHead, Note, Kind, Next, NotedOn}
+use Rattle.std.proofs.Common.{IfSome}
+use Rattle.std.proofs.lemmas.List.{map-append}
+use Rattle.bib_scan.specs.FieldsLeft.{field_in}
 use Rattle.bib_scan.specs.declared.view.Kind.TheVariants as kind
-use Rattle.bib_scan.specs.ReadSoFar.{Next, NotedOn}
 use Rattle.bib_scan.proofs.CleanLaws.{next_found}
 use Rattle.bib_scan.proofs.CommandLaws.{command_ok}
 use Rattle.bib_scan.proofs.TreeAgainLaws.{closes}

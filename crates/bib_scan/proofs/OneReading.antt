@@ -1,15 +1,7 @@
 -- No text has two readings.
-use Rattle.std.proofs.Common.{◌≡◌, ℕ, ◌<◌, true, false, List, [], ◌∷◌, ◌++◌, length, take, drop, refl, sym, ap, subst, ◌∙◌, arith, append_assoc}
-use Rattle.std.proofs.lemmas.Bool.{both_ways, not_from_false, not-true, or_parts}
-use Rattle.std.proofs.lemmas.List.{length-append, take_at, drop_at}
-use Rattle.std.proofs.lemmas.List.Elements.{All-head, All-tail}
-use Rattle.std.specs.Prelude.{codes}
-use Rattle.std.specs.List.{AllPass, flat_map, All}
-use Rattle.bib_spec.specs.Bytes.{name_limit}
-use Rattle.bib_spec.specs.Text.{Text, is_space, is_type_byte, same, does_not_begin_with}
-use Rattle.bib_spec.specs.Tree.{Entry, Definition, Preamble, Head, Opening, Delimiter, Brace, Paren, Tree, CommentTree, DefinitionTree, PreambleTree, EntryTree, value_bytes, row_bytes, last_comma_bytes, open_byte, close_byte, after_key_bytes, tree_bytes, goes_on_key, is_no_keyword, IsHead, IsOpening, IsDefinition, IsPreamble, IsEntry, IsTree}
-use Rattle.bib_spec.specs.Reading.{Item, Reading, item_bytes, bytes_of, IsItem, ReadsWithin}
-use Rattle.bib_scan.specs.LeftToRight.{next_command}
+use Rattle.bib_scan.proofs.Words.{◌≡◌, ℕ, ◌<◌, true, false, List, [], ◌∷◌, ◌++◌, length, take, drop, refl, sym, ap, subst, ◌∙◌, arith, append_assoc, both_ways, not_from_false, not-true, or_parts, length-append, take_at, drop_at, All-head, All-tail, codes, AllPass, flat_map, All, name_limit, Text}
+use Rattle.bib_scan.proofs.Words.{is_space, is_type_byte, same, does_not_begin_with, Entry, Definition, Preamble, Head, Opening, Delimiter, Brace, Paren, Tree, CommentTree, DefinitionTree, PreambleTree, EntryTree, value_bytes, row_bytes, last_comma_bytes, open_byte, close_byte, after_key_bytes}
+use Rattle.bib_scan.proofs.Words.{tree_bytes, goes_on_key, is_no_keyword, IsHead, IsOpening, IsDefinition, IsPreamble, IsEntry, IsTree, Item, Reading, item_bytes, bytes_of, IsItem, ReadsWithin, next_command}
 use Rattle.bib_scan.proofs.PartLaws.{type_name_parts}
 use Rattle.bib_scan.proofs.ValueLaws.{Stands}
 use Rattle.bib_scan.proofs.RowLaws.{assignment_inside}

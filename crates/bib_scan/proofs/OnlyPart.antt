@@ -1,16 +1,13 @@
 -- A value whose bytes have no `#` has one part, and the first byte of a part determines its kind.
-use Rattle.std.proofs.Common.{◌≡◌, ℕ, suc, ◌<◌, ◌==◌, ◌||◌, Bool, true, false, List, [], ◌∷◌, ◌++◌, length, map, Option, None, Some, is_some, slice_get, slice_index, refl, sym, ◌∙◌, ap, ap₂, arith, append-nil}
-use Rattle.std.specs.List.{list_any, flat_map}
-use Rattle.std.specs.Char.{is_ascii_digit}
-use Rattle.std.proofs.lemmas.Bool.{false_from_ne_true, false≢true, eqb-true, or_parts, not-true, cond-true, cond-false}
-use Rattle.std.proofs.lemmas.Option.{none-some, same_Some}
+use Rattle.bib_scan.proofs.Words.{◌≡◌, ℕ, suc, ◌<◌, ◌==◌, ◌||◌, Bool, true, false, List, [], ◌∷◌, ◌++◌, length, map, Option, None, Some, slice_index, refl, sym, ◌∙◌, ap, ap₂, arith, append-nil, flat_map, is_ascii_digit, false_from_ne_true, eqb-true, or_parts, not-true, cond-true, cond-false}
+use Rattle.bib_scan.proofs.Words.{none-some, same_Some, All-head, IsFirstByte, is_byte, quote, name_limit, Text, is_name_byte, Part, Braced, Quoted, Macro, Link, Value, part_bytes, link_bytes, value_bytes, IsPart, IsValue, part_kind, link_part, parts_of}
+use Rattle.std.proofs.Common.{is_some, slice_get}
+use Rattle.std.specs.List.{list_any}
+use Rattle.std.proofs.lemmas.Bool.{false≢true}
 use Rattle.std.proofs.lemmas.List.Folds.{list_any-append}
-use Rattle.std.proofs.lemmas.List.Elements.{All-head}
-use Rattle.memchr.specs.Find.{IsFirstByte, is_byte}
-use Rattle.bib_spec.specs.Bytes.{open_brace, close_brace, quote, hash, name_limit}
-use Rattle.bib_spec.specs.Text.{Text, is_name_byte}
-use Rattle.bib_spec.specs.Tree.{Part, Braced, Quoted, Digits, Macro, Link, Value, part_bytes, link_bytes, value_bytes, IsPart, IsValue}
-use Rattle.bib_scan.specs.ValueParts.{part_kind, kind_begun, link_part, parts_of}
+use Rattle.bib_spec.specs.Bytes.{open_brace, close_brace, hash}
+use Rattle.bib_spec.specs.Tree.{Digits}
+use Rattle.bib_scan.specs.ValueParts.{kind_begun}
 use Rattle.bib_scan.specs.declared.parts.PartKind.TheVariants as kind
 use Rattle.bib_scan.proofs.PartLaws.{name_parts}
 

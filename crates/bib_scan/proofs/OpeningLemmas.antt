@@ -1,10 +1,5 @@
 -- A text is clean if and only if the search for a command reaches its end.
-use Rattle.std.proofs.Common.{◌≡◌, zero, suc, [], ◌∷◌, length, refl, ap, arith, inl, inr}
-use Rattle.std.proofs.lemmas.List.{drop_all}
-use Rattle.std.proofs.lemmas.Bool.{cases_Bool}
-use Rattle.bib_spec.specs.Text.{Text}
-use Rattle.bib_spec.specs.Clean.{begins_command, IsClean}
-use Rattle.bib_scan.specs.LeftToRight.{next_command}
+use Rattle.bib_scan.proofs.Words.{◌≡◌, zero, suc, [], ◌∷◌, length, refl, ap, arith, inl, inr, drop_all, cases_Bool, Text, begins_command, IsClean, next_command}
 use Rattle.bib_scan.proofs.CommandLemmas.{next_none, next_here}
 
 pub clean_len : (t : Text) → IsClean t → next_command t ≡ length t

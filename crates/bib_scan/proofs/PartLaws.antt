@@ -1,15 +1,11 @@
 -- Names and parts: what is read is a name or a part, and a name or part that is written is read again.
-use Rattle.std.proofs.Common.{◌≡◌, ℕ, suc, ◌<◌, ◌≤◌, true, false, eqb, [], ◌∷◌, ◌++◌, length, take, refl, sym, ap, subst, ◌∙◌, arith, append_assoc, inl, inr, Ok}
-use Rattle.std.proofs.lemmas.Bool.{eqb-true, ne_eqb, and_parts, and_from, ltb-true, leb-true, lt-ltb, le-leb, not-true, not_from_false, both_ways, cond-true}
-use Rattle.std.proofs.lemmas.List.{length-append}
-use Rattle.std.proofs.lemmas.List.Sums.{AllPass-from_list_all, list_all-from_AllPass}
-use Rattle.std.proofs.lemmas.List.Elements.{All-head}
-use Rattle.std.specs.List.{prefix_len, take_while, AllPass}
-use Rattle.std.specs.Char.{is_ascii_digit}
-use Rattle.bib_spec.specs.Bytes.{name_limit}
-use Rattle.bib_spec.specs.Text.{Text, is_name_within, is_type_name, is_name_byte, is_type_byte, does_not_begin_with, after_run}
-use Rattle.bib_spec.specs.Tree.{Part, Braced, Quoted, Digits, Macro, part_bytes, IsPart}
-use Rattle.bib_scan.specs.LeftToRight.{Read, read_braced, read_quoted, read_run, begins_name, read_name, read_part, ◌>>=◌}
+use Rattle.bib_scan.proofs.Words.{◌≡◌, ℕ, suc, ◌<◌, ◌≤◌, true, false, eqb, [], ◌∷◌, ◌++◌, length, take, refl, sym, ap, subst, ◌∙◌, arith, append_assoc, inl, inr, Ok, eqb-true, ne_eqb, and_parts, and_from, ltb-true, lt-ltb, not-true, not_from_false, both_ways, cond-true, length-append}
+use Rattle.bib_scan.proofs.Words.{list_all-from_AllPass, All-head, prefix_len, take_while, AllPass, is_ascii_digit, name_limit, Text, is_name_within, is_name_byte, is_type_byte, does_not_begin_with, after_run, Part, Braced, Quoted, Macro, part_bytes, IsPart, Read, read_braced, read_quoted, read_run}
+use Rattle.bib_scan.proofs.Words.{begins_name, read_name, read_part, ◌>>=◌}
+use Rattle.std.proofs.lemmas.Bool.{leb-true, le-leb}
+use Rattle.std.proofs.lemmas.List.Sums.{AllPass-from_list_all}
+use Rattle.bib_spec.specs.Text.{is_type_name}
+use Rattle.bib_spec.specs.Tree.{Digits}
 use Rattle.bib_scan.proofs.RunLaws.{bind_ok, chosen, ok_same, not_ok, limited_ok, limited_again, run_split, run_passes, run_front, run_rest}
 use Rattle.bib_scan.proofs.BraceLaws.{braced_ok, braced_again, quoted_ok, quoted_again, balanced_closes, closes_balanced, quotes_inside, quotes_braced}
 

@@ -1,12 +1,6 @@
 -- A text that is not taken apart into parts is not read as one value.
-use Rattle.std.proofs.Common.{◌≡◌, ℕ, zero, suc, ◌+◌, ◌-◌, ◌≤◌, List, [], ◌∷◌, ◌++◌, length, refl, ap, subst, arith, Option, None, Some, Ok, Err}
-use Rattle.std.proofs.lemmas.List.{length-append}
-use Rattle.bib_spec.specs.Fault.{ExpectedCommaOrClose}
-use Rattle.bib_spec.specs.Text.{Text, is_space, after_run}
-use Rattle.bib_spec.specs.Tree.{Part}
-use Rattle.bib_scan.specs.LeftToRight.{Halt, Read, expected, read_part, past_hash, go_on, read_links, nothing_after, read_whole_value, ◌>>=◌}
-use Rattle.bib_scan.specs.PartsLeft.{read_link, unless_end, part_span, read_parts, read_all_parts}
-use Rattle.bib_scan.specs.declared.parts.PartSpan.{PartSpan}
+use Rattle.bib_scan.proofs.Words.{◌≡◌, ℕ, zero, suc, ◌+◌, ◌-◌, ◌≤◌, List, [], ◌∷◌, ◌++◌, length, refl, ap, subst, arith, Option, None, Some, Ok, Err, length-append, ExpectedCommaOrClose, Text, is_space, after_run, Part, Halt, Read, expected, read_part, past_hash, go_on, read_links, nothing_after}
+use Rattle.bib_scan.proofs.Words.{read_whole_value, ◌>>=◌, read_link, unless_end, part_span, read_parts, read_all_parts, PartSpan}
 use Rattle.bib_scan.proofs.RunLaws.{not_ok}
 use Rattle.bib_scan.proofs.MendLaws.{err_is}
 use Rattle.bib_scan.proofs.PartLaws.{part_len}

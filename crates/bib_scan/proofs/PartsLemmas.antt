@@ -1,10 +1,5 @@
 -- Steps of taking a value apart.
-use Rattle.std.proofs.Common.{◌≡◌, ℕ, zero, suc, ◌+◌, ◌-◌, ◌<◌, ◌≤◌, List, [], ◌∷◌, ◌++◌, length, refl, sym, ap, ◌∙◌, arith, append_assoc, append-nil, Result, Ok, Err}
-use Rattle.bib_spec.specs.Text.{Text}
-use Rattle.bib_spec.specs.Tree.{Part}
-use Rattle.bib_scan.specs.LeftToRight.{Halt, read_part, ◌>>=◌}
-use Rattle.bib_scan.specs.PartsLeft.{read_link, unless_end, part_span, read_parts, read_all_parts}
-use Rattle.bib_scan.specs.declared.parts.PartSpan.{PartSpan}
+use Rattle.bib_scan.proofs.Words.{◌≡◌, ℕ, zero, suc, ◌+◌, ◌-◌, ◌<◌, ◌≤◌, List, [], ◌∷◌, ◌++◌, length, refl, sym, ap, ◌∙◌, arith, append_assoc, append-nil, Result, Ok, Err, Text, Part, Halt, read_part, ◌>>=◌, read_link, unless_end, part_span, read_parts, read_all_parts, PartSpan}
 
 abbrev pub with_spans : List PartSpan → Result (List PartSpan) Halt → Result (List PartSpan) Halt
 with_spans spans read = read >>= λ later. Ok (spans ++ later)

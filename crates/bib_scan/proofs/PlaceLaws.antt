@@ -1,10 +1,7 @@
 -- For every kind of text: where it goes wrong, and what is wrong there.
-use Rattle.std.proofs.Common.{◌≡◌, ℕ, ◌+◌, ◌-◌, ◌<◌, ◌≤◌, [], ◌∷◌, ◌++◌, length, take, drop, refl, sym, ap, subst, ◌∙◌, arith, append_assoc, inl, inr, ◌⊎◌}
-use Rattle.std.proofs.lemmas.List.{length-append, take-append-drop, take_at, take-take}
-use Rattle.bib_spec.specs.Text.{Text}
-use Rattle.bib_spec.specs.Reading.{IsViable, FailsAt}
-use Rattle.bib_spec.specs.Bytes.{quote, comma, digit_one, equals_sign, letter_x}
-use Rattle.bib_spec.specs.Fault.{TextKind, MayStand, IsOneTooLong, IsFaultAt, ReadingFault, Unended, ExpectedName, ExpectedEquals, ExpectedCommaOrClose, ExpectedValue, UnbalancedBrace, KeyTooLong}
+use Rattle.bib_scan.proofs.Words.{◌≡◌, ℕ, ◌+◌, ◌-◌, ◌<◌, ◌≤◌, [], ◌∷◌, ◌++◌, length, take, drop, refl, sym, ap, subst, ◌∙◌, arith, append_assoc, inl, inr, ◌⊎◌, length-append, take-append-drop, take_at, take-take, Text, IsViable, FailsAt, quote, comma, digit_one, letter_x, TextKind, MayStand}
+use Rattle.bib_scan.proofs.Words.{IsOneTooLong, IsFaultAt, ReadingFault, Unended, ExpectedName, ExpectedEquals, ExpectedCommaOrClose, ExpectedValue, UnbalancedBrace, KeyTooLong}
+use Rattle.bib_spec.specs.Bytes.{equals_sign}
 use Rattle.bib_spec.specs.Fault as fault
 
 -- ---- fronts of texts

@@ -1,15 +1,9 @@
 -- For files and values: a text of another kind goes wrong at one place, with exactly one fault; and a text of this kind
 -- that is cut either is of this kind or has ended too early.
-use Rattle.std.proofs.Common.{◌≡◌, ℕ, ◌+◌, ◌-◌, ◌<◌, List, ◌++◌, length, take, drop, refl, sym, subst, arith, inl, inr, ◌⊎◌, Result, Ok, Err}
-use Rattle.std.proofs.lemmas.List.{take-append-drop}
-use Rattle.bib_spec.specs.Bytes.{name_limit}
-use Rattle.bib_spec.specs.Text.{Text}
-use Rattle.bib_spec.specs.Reading.{HasReadingWithin, IsValueWithin, IsViable, FailsAt}
-use Rattle.bib_spec.specs.Fault.{TextKind, IsFaultAt, ReadingFault, Unended}
+use Rattle.bib_scan.proofs.Words.{◌≡◌, ℕ, ◌+◌, ◌-◌, ◌<◌, List, ◌++◌, length, take, drop, refl, sym, subst, arith, inl, inr, ◌⊎◌, Result, Ok, Err, take-append-drop, name_limit, Text, HasReadingWithin, IsValueWithin, IsViable, FailsAt, TextKind, IsFaultAt, ReadingFault, Unended, Span, Halt}
+use Rattle.bib_scan.proofs.Words.{read_all_commands, read_whole_value}
 use Rattle.bib_spec.specs.Fault as fault
-use Rattle.bib_scan.specs.declared.layout.Span.{Span}
 use Rattle.bib_scan.specs.Laws.{IsSuchOrFails, OneFault, CutEnds}
-use Rattle.bib_scan.specs.LeftToRight.{Halt, read_all_commands, read_whole_value}
 use Rattle.bib_scan.proofs.ReadingLaws.{reading_of}
 use Rattle.bib_scan.proofs.FailsAtLaws.{failing}
 use Rattle.bib_scan.proofs.PlaceLaws.{one_place, one_fault, viable_front}

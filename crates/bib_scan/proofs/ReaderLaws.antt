@@ -1,22 +1,9 @@
 -- One more item: what was read is an item of the file's reading.
-use Rattle.std.proofs.Common.{◌≡◌, ℕ, ◌-◌, ◌<◌, List, [], ◌∷◌, ◌++◌, length, get_or, slice_get, take, drop, refl, sym, ap, subst, ◌∙◌, arith, append_assoc, inl, inr, true, Option, Some, Result, Ok}
-use Rattle.std.proofs.lemmas.List.{length-append, take_at, drop_at}
-use Rattle.std.proofs.lemmas.Option.{slice_get-get_or, slice_get_within, same_Some, get_or_from_slice_get}
+use Rattle.bib_scan.proofs.Words.{◌≡◌, ℕ, ◌-◌, ◌<◌, List, [], ◌∷◌, ◌++◌, length, get_or, take, drop, refl, sym, ap, subst, ◌∙◌, arith, append_assoc, inl, inr, true, Option, Some, Result, Ok, length-append, take_at, drop_at, slice_get-get_or, slice_get_within, same_Some, get_or_from_slice_get}
+use Rattle.bib_scan.proofs.Words.{name_limit, Text, begins_command, tree_bytes, Item, Span, EntryHead, Note, span_of, places_of, Halt, span, read_command, next_command, read_commands, read_all_commands, read_entry_head, note_from, read_note, IsItemOf, AreAllOf, CommandsOn, NotedOn}
+use Rattle.std.proofs.Common.{slice_get}
 use Rattle.std.proofs.Math.Seq.{get_or-append_seam}
-use Rattle.bib_spec.specs.Bytes.{name_limit}
-use Rattle.bib_spec.specs.Text.{Text}
-use Rattle.bib_spec.specs.Clean.{begins_command}
-use Rattle.bib_spec.specs.Tree.{tree_bytes}
-use Rattle.bib_spec.specs.Reading.{Item}
-use Rattle.bib_scan.specs.declared.layout.Span.{Span}
-use Rattle.bib_scan.specs.declared.note.EntryHead.{EntryHead}
-use Rattle.bib_scan.specs.declared.note.Note.{Note}
-use Rattle.bib_scan.specs.Layout.{span_of, places_of}
-use Rattle.bib_scan.specs.LeftToRight.{Halt, span, read_command, next_command, read_commands, read_all_commands}
 use Rattle.bib_scan.specs.Note.{IsNoteOf}
-use Rattle.bib_scan.specs.NotesLeft.{read_entry_head, note_from, read_note}
-use Rattle.bib_scan.specs.Progress.{IsItemOf, AreAllOf}
-use Rattle.bib_scan.specs.ReadSoFar.{CommandsOn, NotedOn}
 use Rattle.bib_scan.proofs.CommandLaws.{IsTreeOf, command_ok}
 use Rattle.bib_scan.proofs.LayoutLaws.{any_item, length-places, span_at}
 use Rattle.bib_scan.proofs.LayoutLaws.{body_is as body_is_there}

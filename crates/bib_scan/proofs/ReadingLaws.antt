@@ -1,22 +1,12 @@
 -- A whole text: the commands that are read are the items of a reading.
-use Rattle.std.proofs.Common.{◌≡◌, ℕ, zero, suc, ◌+◌, ◌-◌, ◌<◌, ◌≤◌, Bool, true, List, [], ◌∷◌, ◌++◌, length, take, drop, map, refl, sym, ap, ◌∙◌, arith, append_assoc, inl, inr, Result, Ok}
-use Rattle.std.proofs.lemmas.List.{length-append, length-drop, take-append-drop, length-take-le, drop_at, drop-drop}
-use Rattle.std.proofs.lemmas.List.Elements.{All-nil, All-cons, All-head, All-tail}
+use Rattle.bib_scan.proofs.Words.{◌≡◌, ℕ, zero, suc, ◌+◌, ◌-◌, ◌<◌, ◌≤◌, Bool, true, List, [], ◌∷◌, ◌++◌, length, take, drop, map, refl, sym, ap, ◌∙◌, arith, append_assoc, inl, inr, Result, Ok, length-append, length-drop, take-append-drop, length-take-le, drop_at, drop-drop, All-nil, All-cons}
+use Rattle.bib_scan.proofs.Words.{All-head, All-tail, cases_Bool, not_from_false, flat_map, enumerate_from, All, Text, is_type_byte, does_not_begin_with, begins_command, Tree, CommentTree, DefinitionTree, PreambleTree, EntryTree, tree_bytes, Item, Reading, item_bytes, bytes_of, IsItem, ReadsWithin}
+use Rattle.bib_scan.proofs.Words.{Span, start_of, span_of, places_of, Halt, span, read_command, next_command, read_commands, read_all_commands, ◌>>=◌, Next}
 use Rattle.std.proofs.lemmas.Grind.{flat_map-append}
-use Rattle.std.proofs.lemmas.Bool.{cases_Bool, not_from_false}
-use Rattle.std.specs.List.{flat_map, enumerate_from, All}
-use Rattle.bib_spec.specs.Text.{Text, is_type_byte, does_not_begin_with}
-use Rattle.bib_spec.specs.Clean.{begins_command}
-use Rattle.bib_spec.specs.Tree.{Tree, CommentTree, DefinitionTree, PreambleTree, EntryTree, tree_bytes}
-use Rattle.bib_spec.specs.Reading.{Item, Reading, item_bytes, bytes_of, IsItem, ReadsWithin}
-use Rattle.bib_scan.specs.declared.layout.Span.{Span}
-use Rattle.bib_scan.specs.Layout.{start_of, span_of, places_of}
-use Rattle.bib_scan.specs.LeftToRight.{Halt, span, read_command, next_command, read_commands, read_all_commands, ◌>>=◌}
 use Rattle.bib_scan.proofs.BraceLemmas.{take-more}
 use Rattle.bib_scan.proofs.CommandLemmas.{next_here, next_none}
 use Rattle.bib_scan.proofs.RunLaws.{bind_ok, ok_same}
 use Rattle.bib_scan.proofs.CommandLaws.{EndsName, IsTreeOf, command_ok}
-use Rattle.bib_scan.specs.ReadSoFar.{Next}
 use Rattle.bib_scan.proofs.CleanLaws.{next_found, next_again, begins_sign, at_no_type}
 use Rattle.bib_scan.proofs.TreeAgainLaws.{tree_again}
 

@@ -1,13 +1,6 @@
 -- Rows and entries: what is read is a row or an entry.
-use Rattle.std.proofs.Common.{◌≡◌, ◌≤◌, ℕ, zero, suc, Bool, true, false, cond, eqb, List, [], ◌∷◌, ◌++◌, length, refl, sym, ap, subst, ◌∙◌, arith, append_assoc, inl, inr, Option, None, Some, Ok, Err}
-use Rattle.std.proofs.lemmas.Bool.{eqb-true}
-use Rattle.std.proofs.lemmas.List.{length-append}
-use Rattle.std.proofs.lemmas.List.Elements.{All-nil, All-cons}
-use Rattle.std.specs.List.{take_while, flat_map, All}
-use Rattle.bib_spec.specs.Fault.{ExpectedCommaOrClose}
-use Rattle.bib_spec.specs.Text.{Text, is_space, after_run}
-use Rattle.bib_spec.specs.Tree.{Assignment, Row, value_bytes, assignment_bytes, row_bytes, last_comma_bytes, IsAssignment, IsRow, IsLastComma}
-use Rattle.bib_scan.specs.LeftToRight.{expected, Assigned, read_equals, read_assignment, read_row, past_byte, read_comma, read_close, go_on, read_rows, ◌>>=◌}
+use Rattle.bib_scan.proofs.Words.{◌≡◌, ◌≤◌, ℕ, zero, suc, Bool, true, false, cond, eqb, List, [], ◌∷◌, ◌++◌, length, refl, sym, ap, subst, ◌∙◌, arith, append_assoc, inl, inr, Option, None, Some, Ok, Err, eqb-true, length-append, All-nil, All-cons, take_while, flat_map, All, ExpectedCommaOrClose}
+use Rattle.bib_scan.proofs.Words.{Text, is_space, after_run, Assignment, Row, value_bytes, assignment_bytes, row_bytes, last_comma_bytes, IsAssignment, IsRow, IsLastComma, expected, Assigned, read_equals, read_assignment, read_row, past_byte, read_comma, read_close, go_on, read_rows, ◌>>=◌}
 use Rattle.bib_scan.proofs.RunLaws.{bind_ok, chosen, ok_same, not_ok, run_passes, run_stops}
 use Rattle.bib_scan.proofs.PartLaws.{name_ok}
 use Rattle.bib_scan.proofs.ValueLaws.{Stands, space_split, value_ok}

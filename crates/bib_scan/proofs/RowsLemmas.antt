@@ -1,7 +1,5 @@
 -- Steps of the reader of an entry's rows.
-use Rattle.std.proofs.Common.{◌≡◌, ℕ, zero, suc, ◌+◌, ◌-◌, ◌<◌, ◌≤◌, length, refl, ap, ◌∙◌, arith, Result, Ok, Err, None, Some}
-use Rattle.bib_spec.specs.Text.{Text, after_run, is_space}
-use Rattle.bib_scan.specs.LeftToRight.{Halt, Assigned, read_comma, past_byte, go_on, read_assignment, read_row, read_rows, ◌>>=◌}
+use Rattle.bib_scan.proofs.Words.{◌≡◌, ℕ, zero, suc, ◌+◌, ◌-◌, ◌<◌, ◌≤◌, length, refl, ap, ◌∙◌, arith, Result, Ok, Err, None, Some, Text, after_run, is_space, Halt, Assigned, read_comma, past_byte, go_on, read_assignment, read_row, read_rows, ◌>>=◌}
 
 -- The text after the rows of `t` is the text after the rows of `rest`.
 pub record RowsOn (limit : ℕ) (c : ℕ) (t rest : Text) : Type 0 where

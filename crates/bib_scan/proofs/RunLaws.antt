@@ -1,12 +1,8 @@
 -- Runs of bytes of one class at the front of a text, and readers one after another.
-use Rattle.std.proofs.Common.{◌≡◌, ℕ, suc, ◌≤◌, Bool, true, false, cond, ltb, [], ◌∷◌, ◌++◌, length, take, drop, refl, sym, subst, arith, inl, inr, ◌⊎◌, Result, Ok, Err}
-use Rattle.std.proofs.lemmas.List.{take-append-drop, take_at, drop_at}
-use Rattle.std.proofs.lemmas.List.Elements.{All-nil, All-cons, All-head, All-tail}
+use Rattle.bib_scan.proofs.Words.{◌≡◌, ℕ, suc, ◌≤◌, Bool, true, false, cond, ltb, [], ◌∷◌, ◌++◌, length, take, drop, refl, sym, subst, arith, inl, inr, ◌⊎◌, Result, Ok, Err, take-append-drop, take_at, drop_at, All-nil, All-cons, All-head, All-tail, not_from_false, not-true, cases_Bool, prefix_len}
+use Rattle.bib_scan.proofs.Words.{take_while, AllPass, Text, does_not_begin_with, after_run, Halt, read_run, ◌>>=◌}
 use Rattle.std.proofs.lemmas.List.Folds.{length-prefix_len}
-use Rattle.std.proofs.lemmas.Bool.{ltb-false, le-ltb, not_from_false, not-true, cases_Bool}
-use Rattle.std.specs.List.{prefix_len, take_while, AllPass}
-use Rattle.bib_spec.specs.Text.{Text, does_not_begin_with, after_run}
-use Rattle.bib_scan.specs.LeftToRight.{Halt, read_run, ◌>>=◌}
+use Rattle.std.proofs.lemmas.Bool.{ltb-false, le-ltb}
 
 -- ---- texts
 

@@ -1,7 +1,5 @@
 -- What the loops over braces keep.
-use Rattle.std.proofs.Common.{◌≡◌, ◌≤◌, ◌<◌, ℕ, length, take, drop}
-use Rattle.bib_spec.specs.Text.{Text}
-use Rattle.bib_scan.specs.LeftToRight.{Read, with_front, read_value_rest, read_links}
+use Rattle.bib_scan.proofs.Words.{◌≡◌, ◌≤◌, ◌<◌, ℕ, length, take, drop, Text, Read, with_front, read_value_rest, read_links}
 
 -- The text is read up to `at`, and `depth` braces are open there.
 pub record Scanned (F : ℕ → Text → Read Text) (t : Text) (at depth : ℕ) : Type 0 where

@@ -1,12 +1,6 @@
 -- One field after another: what is left after the first.
-use Rattle.std.proofs.Common.{◌≡◌, ℕ, zero, suc, ◌<◌, ◌≤◌, List, [], ◌∷◌, length, refl, sym, ap, ◌∙◌, arith, Option, None, Some, Result, Ok, Err}
-use Rattle.std.specs.Result.{result_ok}
-use Rattle.bib_spec.specs.Bytes.{name_limit}
-use Rattle.bib_spec.specs.Text.{Text, is_space, after_run}
-use Rattle.bib_scan.specs.LeftToRight.{Halt, read_assignment, read_row, read_comma}
-use Rattle.bib_scan.specs.View.{Field}
-use Rattle.bib_scan.specs.FieldsLeft.{first_field, first_and_others, kind_after, fields_left, all_fields_left}
-use Rattle.bib_scan.specs.declared.view.Kind.{Kind}
+use Rattle.bib_scan.proofs.Words.{◌≡◌, ℕ, zero, suc, ◌<◌, ◌≤◌, List, [], ◌∷◌, length, refl, sym, ap, ◌∙◌, arith, Option, None, Some, Result, Ok, Err, result_ok, name_limit, Text, is_space, after_run, Halt, read_assignment, read_row, read_comma, Field, first_field, first_and_others, kind_after}
+use Rattle.bib_scan.proofs.Words.{fields_left, all_fields_left, Kind}
 use Rattle.bib_scan.specs.declared.view.Kind.TheVariants as kind
 use Rattle.bib_scan.proofs.RunLaws.{bind_ok, ok_same}
 use Rattle.bib_scan.proofs.RowLaws.{comma_ok, row_shorter as read_row_shorter}

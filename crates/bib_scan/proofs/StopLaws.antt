@@ -1,22 +1,12 @@
 -- The reading of a file stops after the opening delimiter of a command. The text before that command is read again whatever
 -- follows, even if names and keys may be longer.
-use Rattle.std.proofs.Common.{◌≡◌, ℕ, zero, suc, ◌+◌, ◌-◌, ◌<◌, ◌≤◌, true, false, List, [], ◌∷◌, ◌++◌, length, take, drop, refl, sym, ap, subst, ◌∙◌, arith, append_assoc, append-nil, inl, inr, Result, Ok, Err}
-use Rattle.std.proofs.lemmas.Bool.{eqb-true, and_parts}
-use Rattle.std.proofs.lemmas.List.{length-append, length-drop, take-append-drop, drop_at}
-use Rattle.std.proofs.lemmas.List.Elements.{All-nil, All-cons}
-use Rattle.std.specs.Prelude.{codes}
-use Rattle.std.specs.List.{take_while, flat_map, All}
-use Rattle.bib_spec.specs.Text.{Text, is_space, is_type_byte, same, after_run}
-use Rattle.bib_spec.specs.Clean.{begins_command, opens_body, IsClean}
-use Rattle.bib_spec.specs.Tree.{Head, Delimiter, Tree, open_byte, head_bytes, tree_bytes, IsHead, IsTree, IsOpening}
-use Rattle.bib_spec.specs.Reading.{Item, Reading, item_bytes, IsItem, HasReadingWithin}
-use Rattle.bib_scan.specs.declared.layout.Span.{Span}
-use Rattle.bib_scan.specs.LeftToRight.{Halt, span, delimiter_of, read_body, read_command, next_command, read_commands, read_all_commands, ◌>>=◌}
+use Rattle.bib_scan.proofs.Words.{◌≡◌, ℕ, zero, suc, ◌+◌, ◌-◌, ◌<◌, ◌≤◌, true, false, List, [], ◌∷◌, ◌++◌, length, take, drop, refl, sym, ap, subst, ◌∙◌, arith, append_assoc, append-nil, inl, inr, Result, Ok, Err, eqb-true, and_parts, length-append, length-drop, take-append-drop, drop_at, All-nil}
+use Rattle.bib_scan.proofs.Words.{All-cons, codes, take_while, flat_map, All, Text, is_space, is_type_byte, same, after_run, begins_command, opens_body, IsClean, Head, Delimiter, Tree, open_byte, head_bytes, tree_bytes, IsHead, IsTree, IsOpening, Item, Reading, item_bytes, IsItem, HasReadingWithin}
+use Rattle.bib_scan.proofs.Words.{Span, Halt, span, delimiter_of, read_body, read_command, next_command, read_commands, read_all_commands, ◌>>=◌, Next}
 use Rattle.bib_scan.proofs.RunLaws.{chosen, not_ok, run_split, run_passes}
 use Rattle.bib_scan.proofs.PartLaws.{type_name_from}
 use Rattle.bib_scan.proofs.ValueLaws.{space_split}
 use Rattle.bib_scan.proofs.CommandLaws.{Typed, IsTyped, EndsName, IsTreeOf, opening, is_opening, typed_bytes, open_is, command_ok, or-second}
-use Rattle.bib_scan.specs.ReadSoFar.{Next}
 use Rattle.bib_scan.proofs.CleanLaws.{next_found, next_again, clean_nil}
 use Rattle.bib_scan.proofs.TreeAgainLaws.{Again, head_shape, opened_again, tree_again}
 use Rattle.bib_scan.proofs.ReadingLaws.{not_here, ends_more, ends_take, some_bytes, one_turn}

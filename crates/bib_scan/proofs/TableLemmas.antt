@@ -1,7 +1,7 @@
 -- A table is compared with a class of bytes at each of the 256 bytes, by computation.
-use Rattle.std.proofs.Common.{◌≡◌, ℕ, zero, suc, ◌<◌, Bool, true, false, ◌&&◌, not, nat_eq, bit_and, get_or, List, refl, arith, inl, inr}
+use Rattle.bib_scan.proofs.Words.{◌≡◌, ℕ, zero, suc, ◌<◌, Bool, true, false, ◌&&◌, bit_and, get_or, List, refl, arith, inl, inr, cases_eq}
+use Rattle.std.proofs.Common.{not, nat_eq}
 use Rattle.std.specs.Bool.{beq}
-use Rattle.std.proofs.lemmas.Bool.{cases_eq}
 
 -- the two tests agree on the numbers below n
 unfoldable pub agree_below : (ℕ → Bool) → (ℕ → Bool) → ℕ → Bool

@@ -1,17 +1,9 @@
 -- Taking a value apart finds its parts.
-use Rattle.std.proofs.Common.{◌≡◌, ℕ, zero, suc, ◌+◌, ◌-◌, ◌<◌, ◌≤◌, List, [], ◌∷◌, ◌++◌, length, map, get_or, take, drop, refl, sym, ap, subst, ◌∙◌, arith, append_assoc, append-nil, Option, None, Some, Ok, Err}
-use Rattle.std.proofs.lemmas.List.{length-append, length-map, take_at, drop_at}
-use Rattle.std.proofs.lemmas.List.Elements.{All-nil, All-cons}
+use Rattle.bib_scan.proofs.Words.{◌≡◌, ℕ, zero, suc, ◌+◌, ◌-◌, ◌<◌, ◌≤◌, List, [], ◌∷◌, ◌++◌, length, map, get_or, take, drop, refl, sym, ap, subst, ◌∙◌, arith, append_assoc, append-nil, Option, None, Some, Ok, Err, length-append, length-map, take_at, drop_at, All-nil, All-cons, take_while}
+use Rattle.bib_scan.proofs.Words.{flat_map, All, name_limit, ExpectedCommaOrClose, Text, is_space, after_run, Part, Link, Value, part_bytes, link_bytes, value_bytes, IsSpace, IsPart, IsLink, IsValue, expected, read_part, past_hash, go_on, ◌>>=◌, link_part, parts_of, part_kind, IsPartsOf, read_link}
+use Rattle.bib_scan.proofs.Words.{unless_end, part_span, read_parts, read_all_parts, PartSpan}
 use Rattle.std.specs.Prelude.{slice_get}
-use Rattle.std.specs.List.{take_while, flat_map, All}
-use Rattle.bib_spec.specs.Bytes.{name_limit}
-use Rattle.bib_spec.specs.Fault.{ExpectedCommaOrClose}
-use Rattle.bib_spec.specs.Text.{Text, is_space, after_run}
-use Rattle.bib_spec.specs.Tree.{Part, Link, Value, part_bytes, link_bytes, value_bytes, IsSpace, IsPart, IsLink, IsValue}
-use Rattle.bib_scan.specs.LeftToRight.{expected, read_part, past_hash, go_on, ◌>>=◌}
-use Rattle.bib_scan.specs.ValueParts.{link_part, parts_of, part_kind, span_after, spans_after, spans_of, IsPartsOf}
-use Rattle.bib_scan.specs.PartsLeft.{read_link, unless_end, part_span, read_parts, read_all_parts}
-use Rattle.bib_scan.specs.declared.parts.PartSpan.{PartSpan}
+use Rattle.bib_scan.specs.ValueParts.{span_after, spans_after, spans_of}
 use Rattle.bib_scan.proofs.RunLaws.{bind_ok, ok_same, not_ok, run_passes}
 use Rattle.bib_scan.proofs.PartLaws.{AfterPart, part_ok}
 use Rattle.bib_scan.proofs.ValueLaws.{space_split, joined_ok}

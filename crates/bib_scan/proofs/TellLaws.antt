@@ -1,11 +1,7 @@
 -- What a reader does if another byte, and nothing after it, replaces the text at which it stopped. Each fault is known by
 -- some bytes that the reader passes and some at which it stops.
-use Rattle.std.proofs.Common.{◌≡◌, ℕ, ◌+◌, ◌<◌, ◌≤◌, Bool, true, false, cond, [], ◌∷◌, ◌++◌, length, refl, sym, ap, subst, ◌∙◌, arith, append_assoc, append-nil, inl, inr, ◌⊎◌, Ok, Err}
-use Rattle.std.proofs.lemmas.List.{length-append, append_cancel_right}
-use Rattle.std.proofs.lemmas.Bool.{cond-true, cond-false, both_ways}
-use Rattle.bib_spec.specs.Fault.{ReadingFault, Unended, ExpectedName, ExpectedEquals, ExpectedCommaOrClose, ExpectedValue, UnbalancedBrace, KeyTooLong}
-use Rattle.bib_spec.specs.Text.{Text}
-use Rattle.bib_scan.specs.LeftToRight.{Read, Halt, stop, ◌>>=◌}
+use Rattle.bib_scan.proofs.Words.{◌≡◌, ℕ, ◌+◌, ◌<◌, ◌≤◌, Bool, true, false, cond, [], ◌∷◌, ◌++◌, length, refl, sym, ap, subst, ◌∙◌, arith, append_assoc, append-nil, inl, inr, ◌⊎◌, Ok, Err, length-append, append_cancel_right, cond-true, cond-false, both_ways, ReadingFault, Unended, ExpectedName}
+use Rattle.bib_scan.proofs.Words.{ExpectedEquals, ExpectedCommaOrClose, ExpectedValue, UnbalancedBrace, KeyTooLong, Text, Read, Halt, stop, ◌>>=◌}
 use Rattle.bib_scan.proofs.RunLaws.{not_ok, cons_nil, append_nil-second}
 use Rattle.bib_scan.proofs.LocalLaws.{rest_of, LocalAt, Local, after_first}
 use Rattle.bib_scan.proofs.UniqueLaws.{tail_same}

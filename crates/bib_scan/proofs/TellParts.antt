@@ -1,16 +1,8 @@
 -- What the readers of names and parts do with other bytes where they stopped.
-use Rattle.std.proofs.Common.{◌≡◌, ℕ, ◌+◌, ◌-◌, ◌<◌, ◌≤◌, Bool, true, false, eqb, ltb, [], ◌∷◌, ◌++◌, length, drop, refl, sym, ap, subst, ◌∙◌, arith, append_assoc, append-nil, inl, inr, Ok, Err}
-use Rattle.std.proofs.lemmas.Bool.{cases_eq, or_from, ne_eqb, eqb-true, cond-true, cond-false, not_from_false, lt-ltb, not-true}
-use Rattle.std.proofs.lemmas.List.{append_cancel_right, length-append, length-drop, drop_at}
-use Rattle.std.proofs.lemmas.List.Sums.{prefix_len-le-length}
-use Rattle.std.proofs.lemmas.List.Elements.{All-head, All-push}
-use Rattle.std.proofs.lemmas.Bool.{ltb-true}
-use Rattle.std.specs.List.{prefix_len, take_while, AllPass}
-use Rattle.std.specs.Char.{is_ascii_digit}
-use Rattle.bib_spec.specs.Fault.{ReadingFault, Unended, ExpectedName, ExpectedValue, UnbalancedBrace, KeyTooLong}
-use Rattle.bib_spec.specs.Text.{Text, is_name_within, is_name_byte, does_not_begin_with, after_run}
-use Rattle.bib_spec.specs.Tree.{Part, Braced, Quoted, Digits, Macro, part_bytes, IsPart}
-use Rattle.bib_scan.specs.LeftToRight.{Read, Halt, stop, expected, read_run, with_front, read_braced, read_quoted, begins_name, read_name, read_part, ◌>>=◌}
+use Rattle.bib_scan.proofs.Words.{◌≡◌, ℕ, ◌+◌, ◌-◌, ◌<◌, ◌≤◌, Bool, true, false, eqb, ltb, [], ◌∷◌, ◌++◌, length, drop, refl, sym, ap, subst, ◌∙◌, arith, append_assoc, append-nil, inl, inr, Ok, Err, cases_eq, or_from, ne_eqb, eqb-true, cond-true, cond-false, not_from_false, lt-ltb, not-true}
+use Rattle.bib_scan.proofs.Words.{append_cancel_right, length-append, length-drop, drop_at, prefix_len-le-length, All-head, All-push, ltb-true, prefix_len, take_while, AllPass, is_ascii_digit, ReadingFault, Unended, ExpectedName, ExpectedValue, UnbalancedBrace, KeyTooLong, Text, is_name_within}
+use Rattle.bib_scan.proofs.Words.{is_name_byte, does_not_begin_with, after_run, Part, Braced, Quoted, Macro, part_bytes, IsPart, Read, Halt, stop, expected, read_run, with_front, read_braced, read_quoted, begins_name, read_name, read_part, ◌>>=◌}
+use Rattle.bib_spec.specs.Tree.{Digits}
 use Rattle.bib_scan.proofs.RunLaws.{chosen, not_ok, limited_again, cons_nil}
 use Rattle.bib_scan.proofs.BraceLemmas.{braced_takes, quoted_takes, braced_opens, braced_closes, braced_ends, braced_nil, quoted_opens, quoted_closes, quoted_ends, quoted_inside, quoted_unbalanced, quoted_nil}
 use Rattle.bib_scan.proofs.BraceLaws.{plain_byte, braced_again, quoted_again, balanced_closes, quotes_inside}

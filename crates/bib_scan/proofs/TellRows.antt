@@ -1,9 +1,6 @@
 -- What the readers of values and rows do with other bytes where they stopped.
-use Rattle.std.proofs.Common.{◌≡◌, ℕ, zero, suc, ◌<◌, Bool, true, false, cond, eqb, [], ◌∷◌, refl, sym, ap, subst, ◌∙◌, inl, inr, Ok, Err}
-use Rattle.std.proofs.lemmas.List.{append_cancel_right}
-use Rattle.bib_spec.specs.Fault.{ReadingFault, Unended, ExpectedName, ExpectedEquals, ExpectedCommaOrClose, ExpectedValue}
-use Rattle.bib_spec.specs.Text.{Text, is_space, is_name_byte, after_run}
-use Rattle.bib_scan.specs.LeftToRight.{Read, stop, read_name, read_equals, read_part, read_links, read_row, ◌>>=◌}
+use Rattle.bib_scan.proofs.Words.{◌≡◌, ℕ, zero, suc, ◌<◌, Bool, true, false, cond, eqb, [], ◌∷◌, refl, sym, ap, subst, ◌∙◌, inl, inr, Ok, Err, append_cancel_right, ReadingFault, Unended, ExpectedName, ExpectedEquals, ExpectedCommaOrClose, ExpectedValue, Text, is_space, is_name_byte, after_run, Read}
+use Rattle.bib_scan.proofs.Words.{stop, read_name, read_equals, read_part, read_links, read_row, ◌>>=◌}
 use Rattle.bib_scan.proofs.RunLaws.{ok_same, not_ok}
 use Rattle.bib_scan.proofs.AgainLaws.{Breaks, EndsRow}
 use Rattle.bib_scan.proofs.UniqueLaws.{AfterRow}

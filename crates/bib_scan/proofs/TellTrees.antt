@@ -1,13 +1,8 @@
 -- What the readers of commands do with other bytes where they stopped.
-use Rattle.std.proofs.Common.{◌≡◌, ℕ, zero, suc, ◌<◌, ◌≤◌, Bool, true, false, cond, eqb, [], ◌∷◌, ◌++◌, length, refl, sym, ap, subst, ◌∙◌, arith, inl, inr, ◌⊎◌, Option, None, Some, Ok, Err}
-use Rattle.std.proofs.lemmas.Bool.{cond-false, not_from_false, not-true, not-false, or_cases, eqb-true}
-use Rattle.std.proofs.lemmas.List.{append_cancel_right, length-append, length-drop}
-use Rattle.std.proofs.lemmas.List.Elements.{All-nil}
-use Rattle.std.specs.List.{prefix_len}
-use Rattle.bib_spec.specs.Fault.{Unended, ExpectedName, ExpectedCommaOrClose, ExpectedValue}
-use Rattle.bib_spec.specs.Text.{Text, is_space, does_not_begin_with, after_run}
-use Rattle.bib_spec.specs.Tree.{value_bytes, Delimiter, Brace, Paren, close_byte, goes_on_key, IsRow}
-use Rattle.bib_scan.specs.LeftToRight.{Read, Halt, stop, expected, read_run, read_row, read_rows, read_all_rows, read_close, read_comma, go_on, read_entry, read_definition, read_preamble, ◌>>=◌}
+use Rattle.bib_scan.proofs.Words.{◌≡◌, ℕ, zero, suc, ◌<◌, ◌≤◌, Bool, true, false, cond, eqb, [], ◌∷◌, ◌++◌, length, refl, sym, ap, subst, ◌∙◌, arith, inl, inr, ◌⊎◌, Option, None, Some, Ok, Err, cond-false, not_from_false, not-true, or_cases, eqb-true, append_cancel_right, length-append, length-drop}
+use Rattle.bib_scan.proofs.Words.{All-nil, prefix_len, Unended, ExpectedName, ExpectedCommaOrClose, ExpectedValue, Text, is_space, does_not_begin_with, after_run, value_bytes, Delimiter, Brace, Paren, close_byte, goes_on_key, IsRow, Read, Halt, stop, expected, read_run, read_row, read_rows}
+use Rattle.bib_scan.proofs.Words.{read_all_rows, read_close, read_comma, go_on, read_entry, read_definition, read_preamble, ◌>>=◌}
+use Rattle.std.proofs.lemmas.Bool.{not-false}
 use Rattle.bib_scan.proofs.RunLaws.{bind_ok, ok_same, not_ok, limited_ok, cons_nil}
 use Rattle.bib_scan.proofs.ValueLaws.{skip_space}
 use Rattle.bib_scan.proofs.RowLaws.{comma_ok, row_ok, assignment_inside}

@@ -1,18 +1,11 @@
 -- Bytes that the grammar gives are read again: commands.
-use Rattle.std.proofs.Common.{◌≡◌, ℕ, ◌+◌, ◌<◌, ◌≤◌, Bool, true, false, List, [], ◌∷◌, ◌++◌, length, refl, sym, ap, subst, ◌∙◌, arith, append_assoc, Result, Ok}
-use Rattle.std.proofs.lemmas.Bool.{not_from_false, not-true, cond-true, cond-false, and_left, or_parts, false_from_ne_true}
-use Rattle.std.proofs.lemmas.List.{length-append}
+use Rattle.bib_scan.proofs.Words.{◌≡◌, ℕ, ◌+◌, ◌<◌, ◌≤◌, Bool, true, false, List, [], ◌∷◌, ◌++◌, length, refl, sym, ap, subst, ◌∙◌, arith, append_assoc, Result, Ok, not_from_false, not-true, cond-true, cond-false, and_left, or_parts, false_from_ne_true, length-append, map, All-head, codes}
+use Rattle.bib_scan.proofs.Words.{take_while, AllPass, flat_map, name_limit, Text, is_space, is_name_byte, is_type_byte, same, does_not_begin_with, after_run, begins_command, opens_body, Row, Entry, Definition, Preamble, Head, Opening, Delimiter, Brace, Paren, Tree, CommentTree, DefinitionTree}
+use Rattle.bib_scan.proofs.Words.{PreambleTree, EntryTree, value_bytes, assignment_bytes, row_bytes, last_comma_bytes, open_byte, close_byte, head_bytes, opening_bytes, after_key_bytes, tree_bytes, goes_on_key, is_no_keyword, IsSpace, IsRow, IsOpening, IsDefinition, IsPreamble, IsEntry, IsTree}
+use Rattle.bib_scan.proofs.Words.{Read, Halt, read_value, read_row, read_close, read_all_rows, read_entry, read_definition, read_preamble, delimiter_of, read_body, read_command, read_run, ◌>>=◌}
 use Rattle.std.proofs.lemmas.Slice.Eq.{bytes_eq-Decides}
 use Rattle.std.specs.Char.{to_ascii_lowercase}
-use Rattle.std.proofs.Common.{map}
-use Rattle.std.proofs.lemmas.List.Elements.{All-head}
-use Rattle.std.specs.Prelude.{codes}
-use Rattle.std.specs.List.{take_while, AllPass, flat_map}
-use Rattle.bib_spec.specs.Bytes.{name_limit}
-use Rattle.bib_spec.specs.Text.{Text, is_space, is_name_byte, is_type_byte, same, does_not_begin_with, after_run}
-use Rattle.bib_spec.specs.Clean.{begins_command, opens_body}
-use Rattle.bib_spec.specs.Tree.{Row, Entry, Definition, Preamble, Head, Opening, Delimiter, Brace, Paren, Tree, CommentTree, DefinitionTree, PreambleTree, EntryTree, value_bytes, assignment_bytes, row_bytes, last_comma_bytes, open_byte, close_byte, head_bytes, opening_bytes, after_key_bytes, definition_bytes, preamble_bytes, entry_bytes, tree_bytes, goes_on_key, is_no_keyword, IsSpace, IsRow, IsOpening, IsDefinition, IsPreamble, IsEntry, IsTree}
-use Rattle.bib_scan.specs.LeftToRight.{Read, Halt, read_value, read_row, read_close, read_all_rows, read_entry, read_definition, read_preamble, delimiter_of, read_body, read_command, read_run, ◌>>=◌}
+use Rattle.bib_spec.specs.Tree.{definition_bytes, preamble_bytes, entry_bytes}
 use Rattle.bib_scan.proofs.RunLaws.{run_front, run_rest, limited_again}
 use Rattle.bib_scan.proofs.ValueLaws.{Stands, skip_space}
 use Rattle.bib_scan.proofs.PartLaws.{type_name_parts}

@@ -1,10 +1,7 @@
 -- The bytes of a type name are bytes of a name.
-use Rattle.std.proofs.Common.{◌≡◌, true, [], ◌∷◌, refl}
-use Rattle.std.proofs.lemmas.Bool.{and_parts}
-use Rattle.std.proofs.lemmas.List.Sums.{list_all-from_AllPass}
+use Rattle.bib_scan.proofs.Words.{◌≡◌, true, [], ◌∷◌, refl, and_parts, list_all-from_AllPass, take_while, Text, is_name_byte, is_type_byte}
 use Rattle.std.specs.Cmp.Derive.{both_true}
-use Rattle.std.specs.List.{take_while, list_all}
-use Rattle.bib_spec.specs.Text.{Text, is_name_byte, is_type_byte}
+use Rattle.std.specs.List.{list_all}
 use Rattle.bib_scan.proofs.RunLaws.{run_passes}
 
 pub are_name_bytes : (t : Text) → list_all is_type_byte t ≡ true → list_all is_name_byte t ≡ true

@@ -1,12 +1,6 @@
 -- No text has two readings: values and rows.
-use Rattle.std.proofs.Common.{◌≡◌, ℕ, Bool, true, eqb, List, [], ◌∷◌, ◌++◌, refl, sym, ap, subst, ◌∙◌, append_assoc, Option, None, Some}
-use Rattle.std.proofs.lemmas.Bool.{both_ways, not_from_false}
-use Rattle.std.proofs.lemmas.List.Elements.{All-head, All-tail}
-use Rattle.std.proofs.lemmas.Option.{none-some}
-use Rattle.std.specs.List.{AllPass, take_while, flat_map, All}
-use Rattle.bib_spec.specs.Text.{Text, is_space, is_name_byte, does_not_begin_with, after_run}
-use Rattle.bib_spec.specs.Tree.{Part, Link, Value, Row, part_bytes, link_bytes, value_bytes, row_bytes, IsSpace, IsPart, IsLink, IsValue, IsRow, IsLastComma}
-use Rattle.bib_scan.specs.LeftToRight.{past_hash, past_byte, read_part}
+use Rattle.bib_scan.proofs.Words.{◌≡◌, ℕ, Bool, true, eqb, List, [], ◌∷◌, ◌++◌, refl, sym, ap, subst, ◌∙◌, append_assoc, Option, None, Some, both_ways, not_from_false, All-head, All-tail, none-some, AllPass, take_while, flat_map, All, Text, is_space, is_name_byte, does_not_begin_with, after_run}
+use Rattle.bib_scan.proofs.Words.{Part, Link, Value, Row, part_bytes, link_bytes, value_bytes, row_bytes, IsSpace, IsPart, IsLink, IsValue, IsRow, IsLastComma, past_hash, past_byte, read_part}
 use Rattle.bib_scan.proofs.RunLaws.{run_front, run_rest, ok_same}
 use Rattle.bib_scan.proofs.PartLaws.{AfterPart, part_again, name_parts}
 use Rattle.bib_scan.proofs.ValueLaws.{Stands, skip_space}

@@ -1,12 +1,6 @@
 -- Values and rows: what is read is a value or a row, and a value or row that is written is read again.
-use Rattle.std.proofs.Common.{◌≡◌, ℕ, zero, suc, ◌-◌, Bool, true, false, cond, eqb, List, [], ◌∷◌, ◌++◌, length, take, refl, sym, ap, subst, ◌∙◌, arith, append_assoc, inl, inr, ◌⊎◌, Option, None, Some, Ok}
-use Rattle.std.proofs.lemmas.Bool.{eqb-true}
-use Rattle.std.proofs.lemmas.List.{length-append, take_at}
-use Rattle.std.proofs.lemmas.List.Elements.{All-nil, All-cons}
-use Rattle.std.specs.List.{take_while, flat_map, All}
-use Rattle.bib_spec.specs.Text.{Text, is_space, does_not_begin_with, after_run}
-use Rattle.bib_spec.specs.Tree.{Part, Link, Value, part_bytes, link_bytes, value_bytes, IsSpace, IsLink, IsValue}
-use Rattle.bib_scan.specs.LeftToRight.{read_part, past_hash, go_on, read_links, read_value_rest, read_value, ◌>>=◌}
+use Rattle.bib_scan.proofs.Words.{◌≡◌, ℕ, zero, suc, ◌-◌, Bool, true, false, cond, eqb, List, [], ◌∷◌, ◌++◌, length, take, refl, sym, ap, subst, ◌∙◌, arith, append_assoc, inl, inr, ◌⊎◌, Option, None, Some, Ok, eqb-true, length-append, take_at, All-nil, All-cons, take_while, flat_map, All, Text}
+use Rattle.bib_scan.proofs.Words.{is_space, does_not_begin_with, after_run, Part, Link, Value, part_bytes, link_bytes, value_bytes, IsSpace, IsLink, IsValue, read_part, past_hash, go_on, read_links, read_value_rest, read_value, ◌>>=◌}
 use Rattle.bib_scan.proofs.RunLaws.{bind_ok, ok_same, run_split, run_passes, run_rest}
 use Rattle.bib_scan.proofs.PartLaws.{part_ok}
 

@@ -1,8 +1,5 @@
 -- Steps of the reader of values.
-use Rattle.std.proofs.Common.{◌≡◌, ℕ, zero, suc, ◌-◌, ◌<◌, ◌≤◌, length, take, refl, ap, ◌∙◌, arith, Ok, Err, None, Some}
-use Rattle.bib_spec.specs.Text.{Text, after_run, is_space}
-use Rattle.bib_spec.specs.Tree.{Part}
-use Rattle.bib_scan.specs.LeftToRight.{Halt, read_part, past_hash, read_links, read_value}
+use Rattle.bib_scan.proofs.Words.{◌≡◌, ℕ, zero, suc, ◌-◌, ◌<◌, ◌≤◌, length, take, refl, ap, ◌∙◌, arith, Ok, Err, None, Some, Text, after_run, is_space, Part, Halt, read_part, past_hash, read_links, read_value}
 use Rattle.bib_scan.proofs.ScanInvariant.{LeadsOn}
 
 pub links_more : (limit n : ℕ) (rest next : Text) (p : Part × Text) → 0 < n → Some next ≡ past_hash (after_run is_space rest) → read_part limit next ≡ Ok p → read_links limit n rest ≡ read_links limit (n - 1) p.1

@@ -1,16 +1,9 @@
 -- Texts that are one value: a text that is read is one value, a value that is written is read again, and a refused text
 -- goes wrong where reading stops, with that fault.
-use Rattle.std.proofs.Common.{◌≡◌, ℕ, ◌-◌, ◌<◌, true, [], ◌∷◌, ◌++◌, length, take, refl, sym, ap, subst, ◌∙◌, arith, append_assoc, append-nil, inl, inr, Result, Ok, Err}
-use Rattle.std.proofs.lemmas.List.{append_cancel_right}
-use Rattle.std.proofs.lemmas.List.Elements.{All-nil, All-push}
+use Rattle.bib_scan.proofs.Words.{◌≡◌, ℕ, ◌-◌, ◌<◌, true, [], ◌∷◌, ◌++◌, length, take, refl, sym, ap, subst, ◌∙◌, arith, append_assoc, append-nil, inl, inr, Result, Ok, Err, append_cancel_right, All-nil, All-push, take_while, flat_map, All, digit_one, letter_x, name_limit, Text, is_space, after_run}
+use Rattle.bib_scan.proofs.Words.{Link, Value, part_bytes, link_bytes, value_bytes, IsSpace, IsLink, IsValue, IsValueWithin, IsViable, FailsAt, IsFaultAt, ReadingFault, Unended, ExpectedCommaOrClose, Read, Halt, stop, expected, read_value_rest, read_value, nothing_after, read_whole_value, ◌>>=◌}
 use Rattle.std.proofs.lemmas.List.Concat.{flat_map-append}
-use Rattle.std.specs.List.{take_while, flat_map, All}
-use Rattle.bib_spec.specs.Bytes.{digit_one, letter_x, name_limit}
-use Rattle.bib_spec.specs.Text.{Text, is_space, after_run}
-use Rattle.bib_spec.specs.Tree.{Digits, Link, Value, part_bytes, link_bytes, value_bytes, IsSpace, IsLink, IsValue}
-use Rattle.bib_spec.specs.Reading.{IsValueWithin, IsViable, FailsAt}
-use Rattle.bib_spec.specs.Fault.{IsFaultAt, ReadingFault, Unended, ExpectedCommaOrClose}
-use Rattle.bib_scan.specs.LeftToRight.{Read, Halt, stop, expected, read_value_rest, read_value, nothing_after, read_whole_value, ◌>>=◌}
+use Rattle.bib_spec.specs.Tree.{Digits}
 use Rattle.bib_scan.proofs.RunLaws.{bind_ok, ok_same, not_ok, run_passes}
 use Rattle.bib_scan.proofs.ValueLaws.{space_split, value_ok}
 use Rattle.bib_scan.proofs.AgainLaws.{EndsRow, comma_ends, value_again}

@@ -1,10 +1,6 @@
 -- What reading does if names and keys may be one byte longer: it does the same, unless a name or key was too long.
-use Rattle.std.proofs.Common.{◌≡◌, ℕ, ◌+◌, ◌≤◌, Bool, true, false, cond, [], ◌∷◌, ◌++◌, length, refl, sym, ap, subst, ◌∙◌, arith, append_assoc, Ok, Err}
-use Rattle.std.proofs.lemmas.Bool.{cond-true, cond-false}
-use Rattle.std.proofs.lemmas.List.{length-append, append_cancel_right}
-use Rattle.bib_spec.specs.Fault.{ReadingFault, Unended, ExpectedName, ExpectedEquals, ExpectedCommaOrClose, ExpectedValue, UnbalancedBrace, KeyTooLong}
-use Rattle.bib_spec.specs.Text.{Text}
-use Rattle.bib_scan.specs.LeftToRight.{Read, Halt, ◌>>=◌}
+use Rattle.bib_scan.proofs.Words.{◌≡◌, ℕ, ◌+◌, ◌≤◌, Bool, true, false, cond, [], ◌∷◌, ◌++◌, length, refl, sym, ap, subst, ◌∙◌, arith, append_assoc, Ok, Err, cond-true, cond-false, length-append, append_cancel_right, ReadingFault, Unended, ExpectedName, ExpectedEquals, ExpectedCommaOrClose}
+use Rattle.bib_scan.proofs.Words.{ExpectedValue, UnbalancedBrace, KeyTooLong, Text, Read, Halt, ◌>>=◌}
 use Rattle.bib_scan.proofs.RunLaws.{not_ok}
 use Rattle.bib_scan.proofs.UniqueLaws.{tail_same}
 use Rattle.bib_scan.proofs.LocalLaws.{rest_of, LocalAt, Local, after_first}

@@ -1,14 +1,8 @@
 -- Each reader, if names and keys may be one byte longer.
-use Rattle.std.proofs.Common.{◌≡◌, ℕ, zero, suc, ◌+◌, ◌-◌, Bool, true, false, cond, eqb, [], ◌∷◌, ◌++◌, refl, sym, ap, subst, ◌∙◌, arith, append-nil, inl, inr, None, Some, Ok, Err}
-use Rattle.std.proofs.lemmas.Bool.{cases_eq}
-use Rattle.std.proofs.lemmas.List.{length-append, append_cancel_right}
-use Rattle.std.proofs.lemmas.List.Elements.{All-push}
-use Rattle.std.specs.List.{take_while, AllPass}
-use Rattle.std.specs.Char.{is_ascii_digit}
-use Rattle.bib_spec.specs.Fault.{ReadingFault, Unended, ExpectedName, ExpectedEquals, ExpectedCommaOrClose, ExpectedValue, UnbalancedBrace}
-use Rattle.bib_spec.specs.Text.{Text, is_space, is_name_byte, after_run}
-use Rattle.bib_spec.specs.Tree.{Part, Braced, Quoted, Digits, Macro, Delimiter, close_byte, goes_on_key}
-use Rattle.bib_scan.specs.LeftToRight.{Read, Halt, stop, expected, read_run, read_braced, read_quoted, begins_name, read_name, read_equals, read_part, read_links, read_row, read_comma, read_close, read_rows, read_all_rows, read_entry, read_definition, read_preamble, go_on, ◌>>=◌}
+use Rattle.bib_scan.proofs.Words.{◌≡◌, ℕ, zero, suc, ◌+◌, ◌-◌, Bool, true, false, cond, eqb, [], ◌∷◌, ◌++◌, refl, sym, ap, subst, ◌∙◌, arith, append-nil, inl, inr, None, Some, Ok, Err, cases_eq, length-append, append_cancel_right, All-push, take_while, AllPass, is_ascii_digit, ReadingFault, Unended}
+use Rattle.bib_scan.proofs.Words.{ExpectedName, ExpectedEquals, ExpectedCommaOrClose, ExpectedValue, UnbalancedBrace, Text, is_space, is_name_byte, after_run, Part, Braced, Quoted, Macro, Delimiter, close_byte, goes_on_key, Read, Halt, stop, expected, read_run, read_braced, read_quoted, begins_name}
+use Rattle.bib_scan.proofs.Words.{read_name, read_equals, read_part, read_links, read_row, read_comma, read_close, read_rows, read_all_rows, read_entry, read_definition, read_preamble, go_on, ◌>>=◌}
+use Rattle.bib_spec.specs.Tree.{Digits}
 use Rattle.bib_scan.proofs.RunLaws.{not_ok, limited_ok, limited_again}
 use Rattle.bib_scan.proofs.BraceLemmas.{quoted_takes, quoted_opens, quoted_closes, quoted_ends, quoted_inside, quoted_unbalanced, quoted_nil}
 use Rattle.bib_scan.proofs.BraceLaws.{plain_byte}

@@ -1,12 +1,14 @@
 -- An edit inside a piece of a step.
-use Rattle.std.proofs.Common.{⊎_elim, zero, suc, ◌≡◌, ℕ, get_or, set, ◌+◌, ◌-◌, ◌<◌, ◌≤◌, nat_le, List, [], ◌∷◌, ◌++◌, length, take, drop, refl, sym, subst, ◌∙◌, ap, ap₂, arith, append-nil, append_assoc, length-append, length-set, length-drop, take-append-drop}
+use Rattle.bib_steps.proofs.Words.{zero, suc, ◌≡◌, ℕ, get_or, set, ◌+◌, ◌-◌, ◌<◌, ◌≤◌, List, [], ◌∷◌, ◌++◌, length, take, drop, refl, sym, subst, ◌∙◌, ap, ap₂, arith, append-nil, append_assoc, length-append, length-drop, take-append-drop, take_at, drop_at, drop_all, take-append-le, length-take-le}
+use Rattle.bib_steps.proofs.Words.{set_split, Piece, composed_at, composed_after, IsComposable, IsComposableAt, StandApart, old_end, new_end, ends_of, IsNear}
+use Rattle.std.proofs.Common.{⊎_elim, nat_le, length-set}
 use Rattle.std.proofs.lemmas.Bool.{le-leb, cond-true, cases_lt}
-use Rattle.std.proofs.lemmas.List.{take_at, drop_at, drop_all, take-append-le, drop-append-le, length-take-le, set_split}
+use Rattle.std.proofs.lemmas.List.{drop-append-le}
 use Rattle.std.specs.List.{between}
 use Rattle.bib_spec.specs.Text.{Text}
-use Rattle.bib_spec.specs.Pieces.{Piece, AscendFrom}
-use Rattle.history_spec.specs.Composing.{Back, On, in_order, put_in, Group, group_end, with_member, alone, groups_from, groups, group_old, group_new, composed_from, composed_at, composed_after, IsComposable, IsComposableAt, StandApart, old_end, new_end, ends_of}
-use Rattle.bib_steps.specs.Amending.{IsNear, edited, BeginsInside, HasSpot, edited_at, LiesInside, WereEnds}
+use Rattle.bib_spec.specs.Pieces.{AscendFrom}
+use Rattle.history_spec.specs.Composing.{Back, On, in_order, put_in, Group, group_end, with_member, alone, groups_from, groups, group_old, group_new, composed_from}
+use Rattle.bib_steps.specs.Amending.{edited, BeginsInside, HasSpot, edited_at, LiesInside, WereEnds}
 use Rattle.bib_steps.proofs.Positions.{near_value, near_composable, composable_as, composed_as, same_front_ends}
 use Rattle.bib_steps.proofs.MovedEnds.{ReplacedLast, replaced_last}
 

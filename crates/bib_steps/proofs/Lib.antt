@@ -1,3 +1,4 @@
+pub mod Words
 pub mod Positions
 mod Renewed
 mod MovedEnds

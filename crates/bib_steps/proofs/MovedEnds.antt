@@ -1,13 +1,9 @@
 -- The ends of pieces, if what is before these pieces changes.
-use Rattle.std.proofs.Common.{zero, suc, ◌≡◌, ℕ, ◌+◌, ◌-◌, ◌<◌, ◌≤◌, get_or, set, List, [], ◌∷◌, ◌++◌, length, map, take, drop, refl, sym, subst, ◌∙◌, ap, ap₂, arith, append_assoc, append-nil, take-append-drop, length-append, length-drop}
-use Rattle.std.proofs.lemmas.List.{take_at, drop_at, drop-drop, drop-take, drop_more, length-take-le, map-append, take_all, drop_all, take-take, set_split}
-use Rattle.std.proofs.lemmas.Grind.{get_or_default_zero}
-use Rattle.bib_spec.specs.Bytes.{file_limit}
-use Rattle.bib_spec.specs.Pieces.{Piece, end_of, reversed_from, reversed, EndBy}
-use Rattle.history_spec.specs.Composing.{old_end, new_end, ends_of}
-use Rattle.history_spec.proofs.Around.{reversed_append}
-use Rattle.history_spec.proofs.Near.{length-ends, ends_front}
-use Rattle.bib_steps.specs.Amending.{ends_from, next_end, AreSomeEnds, moved, CanMove, end_at}
+use Rattle.bib_steps.proofs.Words.{zero, suc, ◌≡◌, ℕ, ◌+◌, ◌-◌, ◌<◌, ◌≤◌, get_or, set, List, [], ◌∷◌, ◌++◌, length, map, take, drop, refl, sym, subst, ◌∙◌, ap, ap₂, arith, append_assoc, append-nil, take-append-drop, length-append, length-drop, take_at, drop_at, drop-drop, length-take-le, map-append}
+use Rattle.bib_steps.proofs.Words.{drop_all, take-take, set_split, get_or_default_zero, file_limit, Piece, end_of, reversed_from, reversed, EndBy, old_end, new_end, ends_of, reversed_append, length-ends, ends_from, AreSomeEnds, moved, end_at}
+use Rattle.std.proofs.lemmas.List.{drop-take, drop_more, take_all}
+use Rattle.history_spec.proofs.Near.{ends_front}
+use Rattle.bib_steps.specs.Amending.{next_end, CanMove}
 use Rattle.bib_steps.proofs.Positions.{in_two, take-ends, end_at_take, end_at_new, later_ends_short, same_front_ends}
 
 -- ---- ends of a part

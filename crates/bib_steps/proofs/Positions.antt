@@ -1,17 +1,16 @@
 -- Pieces by their positions, and what an edit lies near.
-use Rattle.std.proofs.Common.{zero, suc, ◌≡◌, ℕ, ◌+◌, ◌-◌, ◌<◌, ◌≤◌, get_or, List, [], ◌∷◌, ◌++◌, length, map, take, drop, Some, None, refl, sym, subst, ◌∙◌, ap, ap₂, arith, take-append-drop, length-append}
-use Rattle.std.proofs.lemmas.List.{drop-drop, length-take-le, take_at, take-take, take-append-le, get_or-take, map-append}
+use Rattle.bib_steps.proofs.Words.{zero, suc, ◌≡◌, ℕ, ◌+◌, ◌-◌, ◌<◌, ◌≤◌, get_or, List, [], ◌∷◌, ◌++◌, length, map, take, drop, Some, refl, sym, subst, ◌∙◌, ap, ap₂, arith, take-append-drop, length-append, drop-drop, length-take-le, take_at, take-take, take-append-le, map-append, slice_get}
+use Rattle.bib_steps.proofs.Words.{file_limit, Piece, end_of, reversed_from, reversed, EndBy, IsComposable, IsComposableAt, composed, composed_at, composed_after, old_end, new_end, StandApart, ends_of, Replacement, reversed_append, length-ends, end_at, BeginAfter, IsNear}
+use Rattle.std.proofs.Common.{None}
+use Rattle.std.proofs.lemmas.List.{get_or-take}
 use Rattle.std.proofs.lemmas.Option.{get_or_from_slice_get}
-use Rattle.std.specs.List.{slice_get}
 use Rattle.std.proofs.Math.Seq.{take-add}
-use Rattle.bib_spec.specs.Bytes.{file_limit}
-use Rattle.bib_spec.specs.Pieces.{Piece, end_of, applied, reversed_from, reversed, EndBy}
-use Rattle.history_spec.specs.Composing.{IsComposable, IsComposableAt, composed, composed_at, composed_after, old_end, new_end, BeginsAfter, EndBefore, StandApart, LiesBetween, AreEnds, ends_of, Replacement, replaced}
+use Rattle.bib_spec.specs.Pieces.{applied}
+use Rattle.history_spec.specs.Composing.{BeginsAfter, EndBefore, LiesBetween, AreEnds, replaced}
 use Rattle.history_spec.proofs.Ordered.{ascend_earlier}
 use Rattle.history_spec.proofs.Covered.{standing_rest}
-use Rattle.history_spec.proofs.Around.{ascend_past, fit_part, reversed_append, composed-in_turn}
-use Rattle.history_spec.proofs.Near.{length-ends, new_end_last, old_end_at, begins_after, ends_inside, ends_rest, old_end_by, composed_near, composable_near}
-use Rattle.bib_steps.specs.Amending.{end_at, BeginAfter, IsNear}
+use Rattle.history_spec.proofs.Around.{ascend_past, fit_part, composed-in_turn}
+use Rattle.history_spec.proofs.Near.{new_end_last, old_end_at, begins_after, ends_inside, ends_rest, old_end_by, composed_near, composable_near}
 
 -- ---- ends by position
 

@@ -1,7 +1,5 @@
 -- What the loop over ends keeps, and how it continues.
-use Rattle.std.proofs.Common.{◌≡◌, ℕ, List, ◌++◌, map, drop}
-use Rattle.bib_spec.specs.Bytes.{file_limit}
-use Rattle.bib_spec.specs.Pieces.{Piece, end_of, reversed_from, EndBy}
+use Rattle.bib_steps.proofs.Words.{◌≡◌, ℕ, List, ◌++◌, map, drop, file_limit, Piece, end_of, reversed_from, EndBy}
 
 -- the ends so far, and those of the pieces from i on, are the ends of all
 pub record IsRenewed (all : List ℕ) (rest : List Piece) (ends : List ℕ) (end new_end i : ℕ) : Type 0 where

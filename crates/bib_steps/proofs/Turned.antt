@@ -1,6 +1,5 @@
 -- A list whose items are replaced by turning it.
-use Rattle.std.proofs.Common.{◌≡◌, ℕ, ◌+◌, ◌-◌, ◌≤◌, List, ◌++◌, length, take, drop, refl, sym, ◌∙◌, ap, ap₂, arith, append_assoc, length-append, length-drop, take-append-drop}
-use Rattle.std.proofs.lemmas.List.{take_at, drop_at, drop-drop, length-take-le}
+use Rattle.bib_steps.proofs.Words.{◌≡◌, ℕ, ◌+◌, ◌-◌, ◌≤◌, List, ◌++◌, length, take, drop, refl, sym, ◌∙◌, ap, ap₂, arith, append_assoc, length-append, length-drop, take-append-drop, take_at, drop_at, drop-drop, length-take-le}
 
 -- the list with its items from one position on turned, so that the first of them come last
 abbrev pub turned : {X : Type 0} → ℕ → ℕ → List X → List X

@@ -1,28 +1,10 @@
 -- An entry comes after all items, and trails may change: what is said of the others stays.
-use Rattle.std.proofs.Common.{◌≡◌, ℕ, zero, suc, ◌+◌, cond, Bool, List, [], ◌∷◌, ◌++◌, length, map, Some, None, refl, sym, ◌∙◌, ap, ap₂, subst, arith, append-nil}
-use Rattle.std.specs.List.{flat_map, All}
-use Rattle.std.specs.Option.{option_or}
-use Rattle.std.proofs.lemmas.Option.{none-some}
-use Rattle.std.proofs.lemmas.List.{map-append}
-use Rattle.std.proofs.lemmas.List.Elements.{All-head, All-tail}
-use Rattle.bib_spec.specs.Bytes.{name_limit}
-use Rattle.bib_spec.specs.Text.{Text}
-use Rattle.bib_spec.specs.Tree.{Tree, tree_bytes}
-use Rattle.bib_spec.specs.Reading.{Item, IsItem, item_bytes}
-use Rattle.bib_spec.specs.Texts.{Macros, months, macros_after, macros_at, gathered, raw_texts_from}
-use Rattle.bib_spec.specs.Records.{EntryTexts, entry_in, keys_of, crossref_text}
-use Rattle.bib_scan.proofs.OneReading.{tree_unique}
-use Rattle.bib_store.specs.declared.tables.Tables.{Tables}
-use Rattle.bib_store.specs.Meaning.{is_entry_tree}
-use Rattle.bib_definitions.proofs.AlikeDefinitions.{definitions_alike}
-use Rattle.bib_definitions.specs.Definitions.{is_definition_tree, defined_by}
-use Rattle.bib_store.specs.declared.bounds.Bounds.{Bounds}
-use Rattle.bib_store.specs.Bounds.{IsBounded, AreBounded}
-use Rattle.bib_store.specs.Tables.{is_preamble_tree}
-use Rattle.bib_entries.specs.EntryTable.{IsTableOf}
-use Rattle.bib_store.specs.ItemTexts.{first_too_long, placed_texts}
-use Rattle.bib_store.specs.Beside.{AreTablesOf}
-use Rattle.bib_numbers.specs.Numbers.{numbered, numbers}
+use Rattle.bib_store.proofs.Words.{◌≡◌, ℕ, zero, suc, ◌+◌, cond, Bool, List, [], ◌∷◌, ◌++◌, length, map, Some, None, refl, sym, ◌∙◌, ap, ap₂, subst, arith, flat_map, option_or, none-some, map-append, All-head, All-tail, name_limit, Text, Tree, tree_bytes, IsItem, item_bytes, Macros, months}
+use Rattle.bib_store.proofs.Words.{macros_after, macros_at, gathered, raw_texts_from, EntryTexts, entry_in, keys_of, crossref_text, tree_unique, Tables, is_entry_tree, definitions_alike, is_definition_tree, defined_by, Bounds, IsBounded, AreBounded, is_preamble_tree, IsTableOf, first_too_long}
+use Rattle.bib_store.proofs.Words.{placed_texts, AreTablesOf, numbered, numbers}
+use Rattle.std.proofs.Common.{append-nil}
+use Rattle.std.specs.List.{All}
+use Rattle.bib_spec.specs.Reading.{Item}
 use Rattle.bib_store.proofs.RowTexts.{cons_parts}
 use Rattle.bib_store.proofs.OneItemMore.{raw_texts-append, first-append}
 use Rattle.bib_store.proofs.Placed.{first_of, first_kept, none_both, fit_parts, fit_joined}

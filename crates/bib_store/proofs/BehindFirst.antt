@@ -1,25 +1,12 @@
 -- A change whose first item comes and goes, and whose other items each replace one of their kind.
-use Rattle.std.proofs.Common.{◌≡◌, ℕ, ◌+◌, ◌-◌, ◌≤◌, ◌<◌, ◌^◌, List, ◌++◌, length, take, drop, None, inr, refl, sym, subst, ◌∙◌, ap, arith, append_assoc, length-append, length-drop, take-append-drop, All}
-use Rattle.std.specs.List.{between}
-use Rattle.std.proofs.lemmas.List.{drop-drop, length-take-le, take-map, drop-map, take-take}
-use Rattle.std.proofs.lemmas.List.Elements.{All-take, All-drop}
-use Rattle.bib_spec.specs.Bytes.{name_limit}
-use Rattle.bib_spec.specs.Text.{Text}
+use Rattle.bib_store.proofs.Words.{◌≡◌, ℕ, ◌+◌, ◌-◌, ◌≤◌, ◌<◌, ◌^◌, List, ◌++◌, length, take, drop, None, inr, refl, sym, subst, ◌∙◌, ap, arith, append_assoc, length-append, take-append-drop, between, drop-drop, take-map, drop-map, take-take, All-take, All-drop, name_limit, Text, Reading, Reads}
+use Rattle.bib_store.proofs.Words.{IsItem, months, too_long_at, stored, all_stored, Change, Tables, AreTables, AreTablesOf, IsFirm, bodies_between, AreItemsOf, MayPass, TakePlaces, IsKeptAs, ArePut, HasLead, joined}
+use Rattle.std.proofs.Common.{length-drop, All}
+use Rattle.std.proofs.lemmas.List.{length-take-le}
 use Rattle.bib_spec.specs.Reading as reading
-use Rattle.bib_spec.specs.Reading.{Reading, Reads, IsItem}
-use Rattle.bib_spec.specs.Texts.{months, too_long_at}
 use Rattle.bib_items.specs.declared.list.Item.{Item}
-use Rattle.bib_items.specs.Items.{stored, all_stored}
-use Rattle.bib_store.specs.declared.change.Change.{Change}
-use Rattle.bib_store.specs.declared.tables.Tables.{Tables}
-use Rattle.bib_store.specs.Beside.{AreTables, AreTablesOf}
-use Rattle.bib_store.specs.Firm.{IsFirm}
-use Rattle.bib_store.specs.Following.{bodies_between, AreItemsOf, MayPass}
-use Rattle.bib_store.specs.InPlace.{TakePlaces}
-use Rattle.bib_store.specs.Stored.{IsKeptAs}
-use Rattle.bib_store.specs.Windows.{ArePut, HasLead, joined}
 use Rattle.bib_store.proofs.Appended.{fit_alike}
-use Rattle.bib_store.proofs.BroughtIn.{again_put, stay_put, gone_put, long_now, long_new}
+use Rattle.bib_store.proofs.InsertedRuns.{again_put, stay_put, gone_put, long_now, long_new}
 use Rattle.bib_store.proofs.FirmTables.{firm_short}
 use Rattle.bib_store.proofs.Followed.{between_later}
 use Rattle.bib_store.proofs.FollowedFiles.{bodies-stored}

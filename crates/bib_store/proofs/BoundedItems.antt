@@ -1,12 +1,7 @@
 -- What is known of all items, when one comes or goes.
-use Rattle.std.proofs.Common.{◌≡◌, ℕ, ◌≤◌, Bool, true, false, ◌&&◌, List, [], ◌∷◌, ◌++◌, refl, sym, ◌∙◌, ap, arith}
-use Rattle.std.proofs.lemmas.Bool.{both_ways}
-use Rattle.bib_spec.specs.Text.{Text, folded}
-use Rattle.bib_spec.specs.Tree.{Definition, DefinitionTree, PreambleTree, Preamble, CommentTree, Head}
+use Rattle.bib_store.proofs.Words.{◌≡◌, ℕ, ◌≤◌, Bool, true, false, ◌&&◌, List, [], ◌∷◌, ◌++◌, refl, sym, ◌∙◌, ap, arith, both_ways, Text, folded, Definition, DefinitionTree, PreambleTree, Preamble, CommentTree, Macros, macros_in, raw_text, Bounds, IsSettled, IsBounded, AreBounded, Admits}
+use Rattle.bib_spec.specs.Tree.{Head}
 use Rattle.bib_spec.specs.Reading.{Item}
-use Rattle.bib_spec.specs.Texts.{Macros, macros_in, raw_text}
-use Rattle.bib_store.specs.declared.bounds.Bounds.{Bounds}
-use Rattle.bib_store.specs.Bounds.{IsSettled, IsBounded, AreBounded, Admits}
 
 -- ---- items
 

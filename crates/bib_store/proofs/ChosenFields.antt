@@ -1,17 +1,11 @@
 -- Fields of some names, gathered one after another, are those of all that would be gathered.
-use Rattle.std.proofs.Common.{◌≡◌, Bool, true, false, not, cond, ◌||◌, List, [], ◌∷◌, ◌++◌, filter, refl, sym, ◌∙◌, ap, map, append-nil, ⊎_elim}
-use Rattle.std.specs.List.{list_any, AllZip, AllByRecursion}
-use Rattle.std.proofs.lemmas.Bool.{false≢true, cases_Bool, cond-true, cond-false}
-use Rattle.std.proofs.lemmas.List.Elements.{filter-append}
-use Rattle.bib_spec.specs.Text.{Text, folded, same}
-use Rattle.bib_spec.specs.Tree.{Row}
-use Rattle.bib_spec.specs.Texts.{Macros, raw_text}
-use Rattle.bib_spec.specs.Records.{Field, RecordField, record_field, field_of, crossref, missing}
-use Rattle.bib_spec.proofs.Names.{same_of, same-true}
+use Rattle.bib_store.proofs.Words.{◌≡◌, Bool, true, false, not, cond, ◌||◌, List, [], ◌∷◌, ◌++◌, filter, refl, sym, ◌∙◌, ap, map, ⊎_elim, list_any, AllZip, AllByRecursion, cases_Bool, cond-true, cond-false, filter-append, Text, folded, same, Row, Macros, raw_text, RecordField, record_field}
+use Rattle.bib_store.proofs.Words.{field_of, crossref, missing, same_of, same-true, OfValue, is_taken, with_field, with_fields, IsReadable, IsFieldOf, chosen}
+use Rattle.std.proofs.Common.{append-nil}
+use Rattle.std.proofs.lemmas.Bool.{false≢true}
+use Rattle.bib_spec.specs.Records.{Field}
 use Rattle.bib_scan.specs.View as view
-use Rattle.bib_value.specs.Raw.{OfValue}
-use Rattle.bib_store.specs.Gathering.{is_taken, with_field, with_fields, IsReadable, IsFieldOf}
-use Rattle.bib_store.specs.Choosing.{is_one_of, chosen}
+use Rattle.bib_store.specs.Choosing.{is_one_of}
 use Rattle.bib_store.proofs.GatheredFields.{same-folded_left}
 
 -- ---- names

@@ -1,18 +1,17 @@
 -- The loops by which a cited list is made.
-use Rattle.std.proofs.Common.{◌≡◌, ℕ, zero, suc, ◌+◌, ◌<◌, ◌≤◌, ◌==◌, Bool, true, false, cond, not, ◌&&◌, ◌||◌, nat_le, List, [], ◌∷◌, ◌++◌, length, take, drop, get_or, set, Option, Some, None, is_none, All, refl, sym, ◌∙◌, ap, arith, map, filter, filter_map, count_by, append_assoc, ⊎_elim, replicate, ne_eqb}
+use Rattle.bib_store.proofs.Words.{◌≡◌, ℕ, zero, suc, ◌+◌, ◌<◌, ◌≤◌, Bool, true, false, cond, not, ◌&&◌, ◌||◌, nat_le, List, [], ◌∷◌, ◌++◌, length, take, drop, get_or, set, Option, Some, None, refl, sym, ◌∙◌, ap, arith, map, filter, count_by, append_assoc, ⊎_elim, range_with_len, enumerate_from}
+use Rattle.bib_store.proofs.Words.{AllByRecursion, option_map_or, eqb-true, drop_all, take_more, length-set, filter-append, All-head, All-tail, list_any-append, Text, EntryTexts, entry_named, with_parents, parent, AreMarks, AreCounts, is_added}
+use Rattle.std.proofs.Common.{◌==◌, is_none, All, filter_map, replicate, ne_eqb}
 use Rattle.std.proofs.Math.Bool.{or-true, or-false}
-use Rattle.std.specs.List.{range_with_len, enumerate_from, cons_option, AllByRecursion}
-use Rattle.std.specs.Option.{option_map_or}
-use Rattle.std.proofs.lemmas.Bool.{eqb-true, eq-eqb, cases_eq}
-use Rattle.std.proofs.lemmas.List.{append-nil, drop_more, drop_all, take_more, take_all, length-take-le, get_or-replicate, length-replicate, get_or-set_same, get_or-set_other, length-set}
-use Rattle.std.proofs.lemmas.List.Elements.{filter-append, filter_map-append, All-cons, All-head, All-tail, All-filter, All-from_recursion}
-use Rattle.std.proofs.lemmas.List.Folds.{list_any-append}
+use Rattle.std.specs.List.{cons_option}
+use Rattle.std.proofs.lemmas.Bool.{eq-eqb, cases_eq}
+use Rattle.std.proofs.lemmas.List.{append-nil, drop_more, take_all, length-take-le, get_or-replicate, length-replicate, get_or-set_same, get_or-set_other}
+use Rattle.std.proofs.lemmas.List.Elements.{filter_map-append, All-cons, All-filter, All-from_recursion}
 use Rattle.std.proofs.lemmas.List.Sums.{count_by_more_yes, count_by_more_no, count_by-le-length}
 use Rattle.std.proofs.lemmas.List.FromFn.{map-range_with_len_more}
-use Rattle.bib_spec.specs.Text.{Text}
-use Rattle.bib_spec.specs.Records.{EntryTexts, entry_named, once, with_parents, parent, is_parent_of}
+use Rattle.bib_spec.specs.Records.{once, is_parent_of}
 use Rattle.bib_spec.proofs.Names.{both_true}
-use Rattle.bib_store.specs.Citing.{is_among, AreMarks, AreCounts, is_added, with_added}
+use Rattle.bib_store.specs.Citing.{is_among, with_added}
 use Rattle.bib_store.proofs.Filters.{filter_twice}
 use Rattle.bib_spec.proofs.Parents.{named_within}
 

@@ -1,15 +1,10 @@
 -- Entries and preambles by their numbers: which items they are, and what is said of them.
-use Rattle.std.proofs.Common.{◌≡◌, ℕ, ◌<◌, true, false, List, [], ◌∷◌, length, slice_get, Some, option_map, refl, sym, ◌∙◌, ap, subst, zero-add}
-use Rattle.std.proofs.lemmas.Bool.{both_ways}
-use Rattle.std.proofs.lemmas.Option.{slice_get-map, slice_get_within, same_Some}
-use Rattle.bib_spec.specs.Text.{Text}
-use Rattle.bib_spec.specs.Tree.{Tree, Entry, Preamble, CommentTree, DefinitionTree, PreambleTree, EntryTree}
-use Rattle.bib_spec.specs.Reading.{Item, Reading}
-use Rattle.bib_spec.specs.Texts.{Macros, months, macros_at, raw_text}
-use Rattle.bib_spec.specs.Records.{EntryTexts, texts_of, entry_in, preamble_in, entries_of, preambles_of, keys_of}
-use Rattle.bib_scan.specs.View.{View, view_of, key_of}
-use Rattle.bib_store.specs.Meaning.{is_entry_tree, entry_items, entry_numbers}
-use Rattle.bib_store.specs.Tables.{is_preamble_tree, preamble_numbers}
+use Rattle.bib_store.proofs.Words.{◌≡◌, ℕ, ◌<◌, true, false, List, [], ◌∷◌, length, Some, option_map, refl, sym, ◌∙◌, ap, subst, both_ways, slice_get-map, slice_get_within, same_Some, Text, Tree, Entry, Preamble, CommentTree, DefinitionTree, PreambleTree, EntryTree, Reading, Macros, months}
+use Rattle.bib_store.proofs.Words.{macros_at, raw_text, EntryTexts, texts_of, entry_in, entries_of, preambles_of, keys_of, View, view_of, key_of, is_entry_tree, entry_numbers, is_preamble_tree, preamble_numbers}
+use Rattle.std.proofs.Common.{slice_get, zero-add}
+use Rattle.bib_spec.specs.Reading.{Item}
+use Rattle.bib_spec.specs.Records.{preamble_in}
+use Rattle.bib_store.specs.Readings.{entry_items}
 use Rattle.bib_store.proofs.Numbered.{StandsAt, length-numbers, length-those, stands_at}
 
 -- ---- entries

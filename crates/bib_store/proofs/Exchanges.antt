@@ -1,15 +1,9 @@
 -- A list whose items are exchanged, one by one.
-use Rattle.std.proofs.Common.{◌≡◌, ℕ, ◌+◌, ◌-◌, ◌≤◌, List, ◌++◌, length, take, drop, sym, subst, ◌∙◌, ap, arith, append_assoc, length-append, length-drop, Some, None, ◌⊎◌, inl, inr}
-use Rattle.std.proofs.lemmas.List.{take_at, drop_at, drop-drop, length-take-le, length-map}
-use Rattle.bib_spec.specs.Text.{Text}
-use Rattle.bib_spec.specs.Reading.{Reading, Reads}
-use Rattle.bib_spec.specs.Texts.{too_long_at}
+use Rattle.bib_store.proofs.Words.{◌≡◌, ℕ, ◌+◌, ◌-◌, ◌≤◌, List, ◌++◌, length, take, drop, sym, subst, ◌∙◌, ap, arith, append_assoc, length-append, Some, None, ◌⊎◌, inl, inr, take_at, drop_at, drop-drop, length-map, Text, Reading, Reads, too_long_at, Window, stored, all_stored, without_range}
+use Rattle.bib_store.proofs.Words.{without-put, Change, IsWindow, ArePut, exchanged}
+use Rattle.std.proofs.Common.{length-drop}
+use Rattle.std.proofs.lemmas.List.{length-take-le}
 use Rattle.bib_items.specs.declared.list.Item.{Item}
-use Rattle.bib_store.specs.declared.window.Window.{Window}
-use Rattle.bib_items.specs.Items.{stored, all_stored, without_range}
-use Rattle.bib_items.proofs.Filled.{without-put}
-use Rattle.bib_store.specs.declared.change.Change.{Change}
-use Rattle.bib_store.specs.Windows.{IsWindow, ArePut, exchanged}
 
 -- ---- the exchange
 

@@ -1,19 +1,8 @@
 -- No text of items of which firm tables tell is too long.
-use Rattle.std.proofs.Common.{◌≡◌, ℕ, ◌*◌, ◌<◌, ◌≤◌, List, [], ◌∷◌, length, max, None, subst, arith, All}
-use Rattle.std.specs.List.{AllByRecursion}
-use Rattle.std.proofs.Math.Nat.{mul-le-mul_right}
-use Rattle.bib_spec.specs.Bytes.{name_limit}
-use Rattle.bib_spec.specs.Tree.{tree_bytes}
-use Rattle.bib_spec.specs.Reading.{Item, IsItem}
-use Rattle.bib_spec.specs.Texts.{months, macros_at, raw_texts_from, raw_limit}
-use Rattle.bib_definitions.specs.Definitions.{AreAtMost}
+use Rattle.bib_store.proofs.Words.{◌≡◌, ℕ, ◌*◌, ◌<◌, ◌≤◌, List, [], ◌∷◌, length, max, None, subst, arith, AllByRecursion, mul-le-mul_right, name_limit, tree_bytes, IsItem, months, macros_at, raw_texts_from, raw_limit, AreAtMost, Bounds, Tables, AreTablesOf, AreBounded, IsFirm, first_too_long}
+use Rattle.std.proofs.Common.{All}
+use Rattle.bib_spec.specs.Reading.{Item}
 use Rattle.bib_definitions.proofs.LongestTexts.{texts_within}
-use Rattle.bib_store.specs.declared.bounds.Bounds.{Bounds}
-use Rattle.bib_store.specs.declared.tables.Tables.{Tables}
-use Rattle.bib_store.specs.Beside.{AreTablesOf}
-use Rattle.bib_store.specs.Bounds.{AreBounded}
-use Rattle.bib_store.specs.Firm.{IsFirm}
-use Rattle.bib_store.specs.ItemTexts.{first_too_long}
 use Rattle.bib_store.proofs.KeptItems.{trees_good}
 use Rattle.bib_store.proofs.ShortEntries.{all_short}
 

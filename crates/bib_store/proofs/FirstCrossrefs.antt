@@ -1,24 +1,13 @@
 -- The first crossref of an entry: if its word is not in the entry's bytes there is none; otherwise it is found row by
 -- row.
-use Rattle.std.proofs.Common.{◌≡◌, true, false, List, [], ◌∷◌, ◌++◌, length, map, Option, Some, None, ⊎_elim, refl, sym, ◌∙◌, ap, subst, append_assoc, All}
+use Rattle.bib_store.proofs.Words.{◌≡◌, true, false, List, [], ◌∷◌, ◌++◌, length, map, Option, Some, None, ⊎_elim, refl, sym, ◌∙◌, ap, subst, append_assoc, flat_map, option_or, cases_Bool, cond-true, cond-false, none-some, same_Some, All-head, All-tail, comma, equals_sign, name_limit, Text, same}
+use Rattle.bib_store.proofs.Words.{Tree, Row, Entry, EntryTree, IsRow, IsTree, value_bytes, row_bytes, opening_bytes, last_comma_bytes, close_byte, tree_bytes, Macros, raw_text, field_text, crossref, crossref_text, entry_in, View, field_after, fields_after, fields_of, view_of, OfValue}
+use Rattle.bib_store.proofs.Words.{is_entry_tree, crossref_in, OfRows, LacksWord}
+use Rattle.std.proofs.Common.{All}
 use Rattle.std.specs.Prelude.{find}
-use Rattle.std.specs.List.{flat_map}
-use Rattle.std.specs.Option.{option_or}
-use Rattle.std.proofs.lemmas.Bool.{cases_Bool, cond-true, cond-false}
-use Rattle.std.proofs.lemmas.Option.{none-some, same_Some}
-use Rattle.std.proofs.lemmas.List.Elements.{All-head, All-tail}
-use Rattle.bib_spec.specs.Bytes.{comma, equals_sign, name_limit}
-use Rattle.bib_spec.specs.Text.{Text, same}
-use Rattle.bib_spec.specs.Tree.{Tree, Row, Entry, EntryTree, IsRow, IsTree, value_bytes, row_bytes, opening_bytes, last_comma_bytes, close_byte, tree_bytes}
 use Rattle.bib_spec.specs.Reading.{Item}
-use Rattle.bib_spec.specs.Texts.{Macros, raw_text, field_text}
-use Rattle.bib_spec.specs.Records.{crossref, crossref_text, entry_in}
-use Rattle.bib_scan.specs.View.{View, Field, field_after, fields_after, fields_of, view_of}
+use Rattle.bib_scan.specs.View.{Field}
 use Rattle.bib_scan.specs.Note.{is_crossref, crossref_field}
-use Rattle.bib_value.specs.Raw.{OfValue}
-use Rattle.bib_store.specs.Meaning.{is_entry_tree}
-use Rattle.bib_store.specs.ItemTexts.{crossref_in, OfRows}
-use Rattle.bib_items.specs.Glancing.{LacksWord}
 use Rattle.bib_store.proofs.EntryItems.{entry_tree}
 use Rattle.bib_store.proofs.RowTexts.{cons_parts, crossref_more, nil_cons}
 

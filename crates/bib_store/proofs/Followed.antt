@@ -1,25 +1,14 @@
 -- Tables that follow items which come and go.
-use Rattle.std.proofs.Common.{◌≡◌, ◌≢◌, ⊎_elim, inl, inr, ℕ, zero, suc, ◌+◌, ◌-◌, ◌≤◌, ◌<◌, ◌^◌, List, [], ◌∷◌, ◌++◌, length, map, take, drop, slice_get, get_or, None, Some, sym, subst, ◌∙◌, ap, ap₂, refl, arith, length-append}
-use Rattle.std.specs.List.{AllByRecursion, between}
-use Rattle.std.proofs.lemmas.Option.{none-some, same_Some, slice_get-get_or}
-use Rattle.std.proofs.lemmas.List.{length-map, length-take-le, length-drop, drop-map, get_or-map, get_or-take, get_or-drop, drop-drop, drop_all, take_all}
-use Rattle.bib_spec.specs.Bytes.{name_limit}
-use Rattle.bib_spec.specs.Text.{Text}
-use Rattle.bib_spec.specs.Tree.{Tree, IsTree, tree_bytes}
+use Rattle.bib_store.proofs.Words.{◌≡◌, ◌≢◌, ⊎_elim, inl, inr, ℕ, zero, suc, ◌+◌, ◌-◌, ◌≤◌, ◌<◌, ◌^◌, List, [], ◌∷◌, ◌++◌, length, map, take, drop, get_or, None, Some, sym, subst, ◌∙◌, ap, ap₂, refl, arith, length-append, AllByRecursion, between, none-some, same_Some, slice_get-get_or, length-map}
+use Rattle.bib_store.proofs.Words.{drop-map, drop-drop, drop_all, name_limit, Text, Tree, IsTree, tree_bytes, Macros, View, view_of, kind_of, item, item_at, Tables, texts_at, first_too_long, placed_texts, AreTablesOf, IsInsertion, IsRemoval, IsTooLongAt, SayTheSame, item_with, AreAllSettled, IsFirm}
+use Rattle.bib_store.proofs.Words.{bodies_between, AreItemsOf, AreOthersOf, DefineNothing, HaveShortTexts, MayPass}
+use Rattle.std.proofs.Common.{slice_get}
+use Rattle.std.proofs.lemmas.List.{length-take-le, length-drop, get_or-map, get_or-take, get_or-drop, take_all}
 use Rattle.bib_spec.specs.Reading as reading
-use Rattle.bib_spec.specs.Texts.{Macros}
-use Rattle.bib_scan.specs.View.{View, view_of, kind_of}
 use Rattle.bib_scan.specs.declared.view.Kind.TheVariants as kind
 use Rattle.bib_items.specs.declared.list.Item.{Item}
-use Rattle.bib_items.specs.Items.{item, item_at}
 use Rattle.bib_entries.proofs.Tables.{heads}
-use Rattle.bib_store.specs.declared.tables.Tables.{Tables}
-use Rattle.bib_definitions.specs.Definitions.{texts_at}
-use Rattle.bib_store.specs.ItemTexts.{first_too_long, placed_texts}
-use Rattle.bib_store.specs.Beside.{AreTablesOf, IsInsertion, IsRemoval, IsTooLongAt, OfSeen, SayTheSame, item_with}
-use Rattle.bib_store.specs.Bounds.{AreAllSettled}
-use Rattle.bib_store.specs.Firm.{IsFirm}
-use Rattle.bib_store.specs.Following.{bodies_between, AreItemsOf, AreOthersOf, DefineNothing, HaveShortTexts, MayPass}
+use Rattle.bib_store.specs.TablesOf.{OfSeen}
 use Rattle.bib_store.proofs.BoundedItems.{bounded_after}
 use Rattle.bib_store.proofs.Settled.{all_settled}
 

@@ -1,34 +1,17 @@
 -- The file of a change whose items come and go: its tables, and its raw texts.
-use Rattle.std.proofs.Common.{◌≡◌, ◌≢◌, ◌⊎◌, ⊎_elim, inl, inr, ℕ, ◌+◌, ◌-◌, ◌≤◌, ◌<◌, ◌^◌, List, [], ◌∷◌, ◌++◌, length, map, take, drop, None, sym, subst, ◌∙◌, ap, ap₂, refl, arith, append_assoc, length-append, take-append-drop}
-use Rattle.std.specs.List.{AllByRecursion, All, flat_map}
-use Rattle.std.specs.Option.{option_or}
-use Rattle.std.proofs.lemmas.List.{map-append, length-map, take-map, drop-map, drop_at, length-take-le, length-drop, drop-drop}
-use Rattle.std.proofs.lemmas.List.Elements.{All-take, All-drop}
-use Rattle.bib_spec.specs.Bytes.{name_limit}
-use Rattle.bib_spec.specs.Text.{Text}
-use Rattle.bib_spec.specs.Tree.{Tree, IsTree, CommentTree, DefinitionTree, PreambleTree, EntryTree, tree_bytes}
+use Rattle.bib_store.proofs.Words.{◌≡◌, ◌≢◌, ◌⊎◌, ⊎_elim, inl, inr, ℕ, ◌+◌, ◌-◌, ◌≤◌, ◌<◌, ◌^◌, List, [], ◌∷◌, ◌++◌, length, map, take, drop, None, sym, subst, ◌∙◌, ap, ap₂, refl, arith, append_assoc, length-append, take-append-drop, AllByRecursion, flat_map, option_or, map-append, length-map}
+use Rattle.bib_store.proofs.Words.{take-map, drop-map, drop_at, drop-drop, All-take, All-drop, name_limit, Text, Tree, IsTree, CommentTree, DefinitionTree, PreambleTree, EntryTree, tree_bytes, Reading, Reads, IsItem, item_bytes, Macros, months, macros_after, macros_at, raw_texts_from, too_long_at}
+use Rattle.bib_store.proofs.Words.{kind_of, stored, all_stored, Change, Tables, texts_at, IsFirm, first_too_long, AreTablesOf, IsKeptAs, IsLead, ArePut, joined, bodies_between, AreOthersOf, DefineNothing, HaveShortTexts, MayPass, MayPassBetween, macros_in_front}
+use Rattle.std.specs.List.{All}
+use Rattle.std.proofs.lemmas.List.{length-take-le, length-drop}
 use Rattle.bib_spec.specs.Reading as reading
-use Rattle.bib_spec.specs.Reading.{Reading, Reads, IsItem, item_bytes}
-use Rattle.bib_spec.specs.Texts.{Macros, months, macros_after, macros_at, raw_texts_from, too_long_at}
-use Rattle.bib_scan.specs.View.{kind_of}
 use Rattle.bib_scan.specs.declared.view.Kind.TheVariants as kind
 use Rattle.bib_items.specs.declared.list.Item.{Item}
-use Rattle.bib_items.specs.Items.{stored, all_stored}
-use Rattle.bib_store.specs.declared.change.Change.{Change}
-use Rattle.bib_store.specs.declared.tables.Tables.{Tables}
-use Rattle.bib_definitions.specs.Definitions.{texts_at}
-use Rattle.bib_store.specs.Firm.{IsFirm}
-use Rattle.bib_store.specs.ItemTexts.{first_too_long}
-use Rattle.bib_store.specs.Beside.{AreTablesOf}
-use Rattle.bib_store.specs.Stored.{IsKeptAs}
-use Rattle.bib_store.specs.Windows.{IsLead, ArePut, joined}
-use Rattle.bib_store.specs.Following.{bodies_between, AreOthersOf, DefineNothing, HaveShortTexts, MayPass, MayPassBetween}
 use Rattle.bib_store.proofs.FirmTables.{firm_short}
 use Rattle.bib_store.proofs.KeptItems.{count_kept, trees_good}
 use Rattle.bib_store.proofs.OneItemMore.{raw_texts-append, first-append}
 use Rattle.bib_store.proofs.Placed.{none_both, fit_parts, fit_joined}
 use Rattle.bib_store.proofs.Appended.{trees, trees_of, trees_between, tables_alike, fit_alike}
-use Rattle.bib_definitions.proofs.MacrosAfter.{macros_in_front}
 
 -- ---- items
 
@@ -359,11 +342,11 @@ module _ (c : Change) (old now : List Item) (count lead : ℕ) (put : ArePut c o
       → ((before gone after : List reading.Item) → length before ≡ from + count → MayPass learnt (bodies_between (from + count + lead) (to + count) now) gone → from + count + (length gone + length after) < 2 ^ 64 →
       AreTablesOf (before ++ (gone ++ after)) learnt → AreTablesOf (before ++ after) forgot)
       → AreTablesOf (before ++ (inner.items ++ after)) forgot
-  followed_tables learnt forgot firm learn forget =
+  followed_tables learnt forgot firm add_to_tables remove_from_tables =
       let low = is.come in
-      let first = learn kept come (gone ++ after) long_kept come_here all_fit old_tables in
+      let first = add_to_tables kept come (gone ++ after) long_kept come_here all_fit old_tables in
       let far : length (kept ++ come) ≡ from + count = omega (arith, low, length-append kept come, long_kept, long_come) in
-      let second = forget (kept ++ come) gone after far (still_pass t learnt _ gone firm gone_here) rest_fit (subst (λ (l : List reading.Item). AreTablesOf l learnt) (sym (append_assoc kept come (gone ++ after))) first) in
+      let second = remove_from_tables (kept ++ come) gone after far (still_pass t learnt _ gone firm gone_here) rest_fit (subst (λ (l : List reading.Item). AreTablesOf l learnt) (sym (append_assoc kept come (gone ++ after))) first) in
       tables_alike (kept ++ (come ++ after)) (before ++ (inner.items ++ after)) forgot same_file (subst (λ (l : List reading.Item). AreTablesOf l forgot) (append_assoc kept come after) second)
 
   pub followed_fits : (forgot : Tables) → (IsFirm t → IsFirm forgot) → All (IsItem name_limit) (before ++ (inner.items ++ after)) → AreTablesOf (before ++ (inner.items ++ after)) forgot

@@ -1,20 +1,10 @@
 -- The first run of pieces, if it changes the front.
-use Rattle.std.proofs.Common.{◌≡◌, ℕ, ◌-◌, ◌≤◌, Bool, true, List, [], ◌∷◌, ◌++◌, length, take, drop, sym, subst, ◌∙◌, ap, ap₂, arith, append_assoc, length-append, length-drop, take-append-drop}
-use Rattle.std.specs.List.{flat_map}
-use Rattle.std.proofs.lemmas.List.{drop-append-le, length-take-le, take-take}
+use Rattle.bib_store.proofs.Words.{◌≡◌, ℕ, ◌-◌, ◌≤◌, Bool, true, List, [], ◌∷◌, ◌++◌, length, take, drop, sym, subst, ◌∙◌, ap, ap₂, arith, append_assoc, length-append, take-append-drop, flat_map, drop-append-le, take-take, Text, IsClean, Reading, Reads, Piece, Fit, applied, kept_bytes, all_stored}
+use Rattle.bib_store.proofs.Words.{Change, Tables, IsRunChange, IsMeasured, AreFollowed, StayFollowed, LeadWithin, all_moved_back, FitAfter, file_of, IsWindow, front_before, front_within, bytes_before, bytes_within, bytes_after, exchanged}
+use Rattle.std.proofs.Common.{length-drop}
+use Rattle.std.proofs.lemmas.List.{length-take-le}
 use Rattle.std.proofs.lemmas.List.Concat.{flat_map-append}
-use Rattle.bib_spec.specs.Text.{Text}
-use Rattle.bib_spec.specs.Clean.{IsClean}
-use Rattle.bib_spec.specs.Reading.{Reading, Reads}
-use Rattle.bib_spec.specs.Pieces.{Piece, Fit, applied}
 use Rattle.bib_items.specs.declared.list.Item.{Item}
-use Rattle.bib_items.specs.Items.{kept_bytes, all_stored}
-use Rattle.bib_store.specs.declared.change.Change.{Change}
-use Rattle.bib_store.specs.declared.tables.Tables.{Tables}
-use Rattle.bib_store.specs.Runs.{IsRunChange, IsMeasured, AreFollowed, StayFollowed, LeadWithin}
-use Rattle.history_spec.specs.Shifting.{all_moved_back, FitAfter}
-use Rattle.bib_store.specs.Stored.{file_of}
-use Rattle.bib_store.specs.Windows.{IsWindow, front_before, front_within, bytes_before, bytes_within, bytes_after, exchanged}
 use Rattle.bib_store.proofs.KeptItems.{bytes-stored}
 use Rattle.bib_store.proofs.LedRuns.{between-first}
 use Rattle.bib_store.proofs.RunPieces.{both_fit, both_applied}

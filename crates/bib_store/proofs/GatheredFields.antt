@@ -1,20 +1,15 @@
 -- Fields gathered one after another are an entry's own fields, and those of its parent that are missing.
-use Rattle.std.proofs.Common.{◌≡◌, Bool, true, false, cond, not, ◌&&◌, ◌||◌, List, [], ◌∷◌, ◌++◌, Option, Some, None, is_some, refl, sym, ◌∙◌, ap, map, filter, append_assoc}
-use Rattle.std.specs.List.{list_any, AllZip, AllByRecursion}
+use Rattle.bib_store.proofs.Words.{◌≡◌, Bool, true, false, cond, not, ◌&&◌, ◌||◌, List, [], ◌∷◌, ◌++◌, Option, Some, None, refl, sym, ◌∙◌, ap, map, filter, append_assoc, list_any, AllZip, AllByRecursion, list_any-append, Text, folded, same, Row, Macros, raw_text, field_text, RecordField}
+use Rattle.bib_store.proofs.Words.{record_field, field_of, crossref, has_name, missing, same_of, same-true, OfValue, is_taken, AreTaken, with_field, with_fields, IsReadable, IsFieldOf}
+use Rattle.std.proofs.Common.{is_some}
 use Rattle.std.specs.Str.{bytes_eq}
 use Rattle.std.specs.Char.{to_ascii_lowercase}
 use Rattle.std.proofs.lemmas.Str.Ascii.{lowercase-lowercase}
 use Rattle.std.proofs.lemmas.List.{append-nil}
-use Rattle.std.proofs.lemmas.List.Folds.{list_any-append}
-use Rattle.bib_spec.specs.Text.{Text, folded, same}
-use Rattle.bib_spec.specs.Tree.{Row}
-use Rattle.bib_spec.specs.Texts.{Macros, raw_text, field_text}
-use Rattle.bib_spec.specs.Records.{Field, RecordField, record_field, field_of, crossref, has_name, effective, missing}
-use Rattle.bib_spec.proofs.Names.{same_of, same_comm, same-true}
+use Rattle.bib_spec.specs.Records.{Field, effective}
+use Rattle.bib_spec.proofs.Names.{same_comm}
 use Rattle.bib_scan.specs.View as view
 use Rattle.folded_map.specs.FoldedMap.{value_at, IsWith}
-use Rattle.bib_value.specs.Raw.{OfValue}
-use Rattle.bib_store.specs.Gathering.{is_taken, AreTaken, with_field, with_fields, IsReadable, IsFieldOf}
 use Rattle.bib_store.proofs.Filters.{filter_twice, filter_all}
 
 -- ---- names

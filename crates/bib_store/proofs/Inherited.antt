@@ -1,12 +1,9 @@
 -- Records with what they inherit, from one parent after another.
-use Rattle.std.proofs.Common.{◌≡◌, ℕ, ◌+◌, ◌-◌, ◌<◌, ◌≤◌, List, [], ◌++◌, Some, None, option_map, slice_get, sym, ◌∙◌, ap, arith}
-use Rattle.std.specs.Option.{option_map_or}
-use Rattle.bib_spec.specs.Text.{Text, folded}
-use Rattle.bib_spec.specs.Tree.{Tree, Entry, EntryTree}
+use Rattle.bib_store.proofs.Words.{◌≡◌, ℕ, ◌+◌, ◌-◌, ◌<◌, ◌≤◌, List, [], ◌++◌, Some, None, option_map, sym, ◌∙◌, ap, arith, option_map_or, Text, folded, Tree, Entry, EntryTree, Macros, View, view_of, key_of, EntryTexts, texts_of, Record, RecordField, parent, own_fields, missing, fields_at}
+use Rattle.std.proofs.Common.{slice_get}
 use Rattle.bib_spec.specs.Reading.{Item}
-use Rattle.bib_spec.specs.Texts.{Macros}
-use Rattle.bib_scan.specs.View.{View, view_of, head_of, key_of}
-use Rattle.bib_spec.specs.Records.{EntryTexts, texts_of, Record, RecordField, parent, ancestors, own_fields, missing, fields_at, with_inherited, record_of, expanded}
+use Rattle.bib_scan.specs.View.{head_of}
+use Rattle.bib_spec.specs.Records.{ancestors, with_inherited, record_of, expanded}
 use Rattle.bib_spec.specs.Lineages.{lineage}
 use Rattle.bib_spec.proofs.Lineages.{lineage_more, lineage_none, lineage_done, rings-give-nothing-more}
 

@@ -1,11 +1,8 @@
 -- An item that comes among others, or goes: what is gathered of all.
-use Rattle.std.proofs.Common.{◌≡◌, ℕ, List, [], ◌∷◌, ◌++◌, length, map, Some, insert, remove, slice_get, refl, sym, ◌∙◌, ap, ap₂}
-use Rattle.std.proofs.lemmas.List.{map-append, length-map}
-use Rattle.bib_spec.specs.Tree.{Tree}
+use Rattle.bib_store.proofs.Words.{◌≡◌, ℕ, List, [], ◌∷◌, ◌++◌, length, map, Some, insert, remove, refl, sym, ◌∙◌, ap, ap₂, map-append, length-map, Tree, Macros, months, macros_after, macros_at, gathered, gathered-append}
+use Rattle.std.proofs.Common.{slice_get}
 use Rattle.bib_spec.specs.Reading.{Item}
-use Rattle.bib_spec.specs.Texts.{Macros, months, macros_after, macros_at, gathered}
 use Rattle.bib_entries.proofs.Tables.{map-insert, map-remove}
-use Rattle.bib_definitions.proofs.MacrosAfter.{gathered-append}
 
 -- ---- lists
 

@@ -1,23 +1,13 @@
 -- What is kept of a file, and what the file says.
-use Rattle.std.proofs.Common.{◌≡◌, ℕ, ◌+◌, ◌<◌, List, [], ◌∷◌, ◌++◌, length, take, get_or, slice_get, Some, option_map, refl, sym, ◌∙◌, ap, ap₂, subst, arith}
-use Rattle.std.specs.List.{flat_map, All, AllByRecursion}
-use Rattle.std.proofs.lemmas.List.Elements.{All-head, All-tail}
-use Rattle.std.proofs.lemmas.Option.{slice_get-map, slice_get_within, slice_get_read, get_or_from_slice_get}
-use Rattle.std.proofs.lemmas.List.{length-map, take-map}
+use Rattle.bib_store.proofs.Words.{◌≡◌, ℕ, ◌+◌, ◌<◌, List, [], ◌∷◌, ◌++◌, length, take, get_or, Some, option_map, refl, sym, ◌∙◌, ap, ap₂, subst, arith, flat_map, AllByRecursion, All-head, All-tail, slice_get-map, slice_get_within, get_or_from_slice_get, length-map, take-map, name_limit, Text, Tree}
+use Rattle.bib_store.proofs.Words.{IsTree, tree_bytes, Reading, Reads, IsItem, item_bytes, bytes_of, start_of, View, view_of, one_reading, Tables, item, item_at, stored, all_stored, kept_bytes, Opens, file_of, IsKeptAs, IsKept}
+use Rattle.std.proofs.Common.{slice_get}
+use Rattle.std.specs.List.{All}
+use Rattle.std.proofs.lemmas.Option.{slice_get_read}
 use Rattle.std.proofs.lemmas.List.Folds.{flat_map-map}
-use Rattle.bib_spec.specs.Bytes.{name_limit}
-use Rattle.bib_spec.specs.Text.{Text}
-use Rattle.bib_spec.specs.Tree.{Tree, IsTree, tree_bytes}
 use Rattle.bib_spec.specs.Reading as reading
-use Rattle.bib_spec.specs.Reading.{Reading, Reads, IsItem, item_bytes, bytes_of}
-use Rattle.bib_scan.specs.Layout.{start_of}
-use Rattle.bib_scan.specs.View.{View, view_of}
-use Rattle.bib_scan.proofs.OneReading.{one_reading}
 use Rattle.bib_items.specs.declared.list.Item.{Item}
-use Rattle.bib_store.specs.declared.tables.Tables.{Tables}
-use Rattle.bib_items.specs.Items.{item, item_at, stored, all_stored, kept_bytes}
-use Rattle.bib_spec.specs.Texts.{Opens}
-use Rattle.bib_store.specs.Stored.{file_of, IsKeptAs, IsKept, SayTheSameOf}
+use Rattle.bib_store.specs.Stored.{SayTheSameOf}
 
 -- what is kept is of the file's one reading
 pub kept_as : (front : Text) (items : List Item) (t : Tables) (file : Text) → IsKept front items t → file_of front items ≡ file → (db : Reading) → Reads file db → IsKeptAs db front items t

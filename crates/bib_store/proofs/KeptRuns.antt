@@ -1,28 +1,14 @@
 -- Tables that follow while items come into a list, or go from it.
-use Rattle.std.proofs.Common.{◌≡◌, inl, ℕ, ◌+◌, ◌-◌, ◌≤◌, ◌<◌, ◌^◌, List, [], ◌++◌, length, map, take, drop, None, refl, sym, subst, ◌∙◌, ap, ap₂, arith, append_assoc, length-append, length-drop, take-append-drop}
-use Rattle.std.specs.List.{All, flat_map}
-use Rattle.std.proofs.lemmas.List.{map-append, take-map, drop-map, take_at, drop_at, take-take}
+use Rattle.bib_store.proofs.Words.{◌≡◌, inl, ℕ, ◌+◌, ◌-◌, ◌≤◌, ◌<◌, ◌^◌, List, [], ◌++◌, length, map, take, drop, None, refl, sym, subst, ◌∙◌, ap, ap₂, arith, append_assoc, length-append, take-append-drop, flat_map, map-append, take-map, drop-map, take_at, drop_at, take-take, All-append, All-take}
+use Rattle.bib_store.proofs.Words.{All-drop, name_limit, file_limit, Text, IsClean, Reading, Reads, IsItem, item_bytes, bytes_of, Macros, months, macros_at, raw_texts_from, kept_bytes, stored, all_stored, without_range, Tables, AreTablesOf, texts_at, first_too_long, IsFirm, AreItemsOf, AreOthersOf}
+use Rattle.bib_store.proofs.Words.{HaveShortTexts, MayPass, IsMeasured, AreFollowed, file_of, IsKept, macros_in_front}
+use Rattle.std.proofs.Common.{length-drop}
+use Rattle.std.specs.List.{All}
 use Rattle.std.proofs.lemmas.List.Concat.{flat_map-append}
-use Rattle.std.proofs.lemmas.List.Elements.{All-append, All-take, All-drop}
-use Rattle.bib_spec.specs.Bytes.{name_limit, file_limit}
-use Rattle.bib_spec.specs.Text.{Text}
-use Rattle.bib_spec.specs.Clean.{IsClean}
 use Rattle.bib_spec.specs.Reading as reading
-use Rattle.bib_spec.specs.Reading.{Reading, Reads, IsItem, item_bytes, bytes_of}
-use Rattle.bib_spec.specs.Texts.{Macros, months, macros_at, raw_texts_from}
 use Rattle.bib_items.specs.declared.list.Item.{Item}
-use Rattle.bib_items.specs.Items.{kept_bytes, stored, all_stored, without_range}
-use Rattle.bib_store.specs.declared.tables.Tables.{Tables}
-use Rattle.bib_store.specs.Beside.{AreTablesOf}
-use Rattle.bib_definitions.specs.Definitions.{texts_at}
-use Rattle.bib_store.specs.ItemTexts.{first_too_long}
-use Rattle.bib_store.specs.Firm.{IsFirm}
-use Rattle.bib_store.specs.Following.{AreItemsOf, AreOthersOf, HaveShortTexts, MayPass}
-use Rattle.bib_store.specs.Runs.{IsMeasured, AreFollowed}
-use Rattle.bib_store.specs.Stored.{file_of, IsKept}
 use Rattle.bib_store.proofs.Appended.{trees, trees_of, trees_between, tables_alike, fit_alike}
 use Rattle.bib_store.proofs.FollowedFiles.{bodies-stored, moved_fits}
-use Rattle.bib_definitions.proofs.MacrosAfter.{macros_in_front}
 use Rattle.bib_store.proofs.KeptItems.{length-stored, file-stored, bytes-stored, trees_good}
 use Rattle.bib_store.proofs.WindowLaws.{bytes-split}
 
@@ -248,13 +234,13 @@ module _ (before stay after rest : List Item) (new : List reading.Item) (at : �
       → ((before new after : List reading.Item) → length before ≡ at → MayPass t bodies new → at + (length new + length after) < 2 ^ 64 → AreTablesOf (before ++ after) t → AreTablesOf (before ++ (new ++ after)) learnt)
       → ((new : List reading.Item) → AreOthersOf bodies new → HaveShortTexts (texts_at t.definitions at) new)
       → AreFollowed (before ++ (stay ++ (all_stored come ++ (after ++ rest)))) learnt
-  come_beside learnt firm learn short =
+  come_beside learnt firm add_to_tables short =
       let last_good = good_last p.first p.last f.all p.whole f.good in
       let good_all : All (IsItem name_limit) (kept ++ (come ++ q.last)) =
       All-append (IsItem name_limit) kept (come ++ q.last)
       (All-append (IsItem name_limit) p.first q.first (good_first p.first p.last f.all p.whole f.good) (good_first q.first q.last p.last q.whole last_good))
       (All-append (IsItem name_limit) come q.last (All-drop (IsItem name_limit) lead new good) (good_last q.first q.last p.last q.whole last_good)) in
-      let tables : AreTablesOf (kept ++ (come ++ q.last)) learnt = learn kept come q.last long_kept come_may come_fit old_tables in
+      let tables : AreTablesOf (kept ++ (come ++ q.last)) learnt = add_to_tables kept come q.last long_kept come_may come_fit old_tables in
       record {
         all = kept ++ (come ++ q.last);
         good = good_all;
@@ -274,13 +260,13 @@ module _ (before stay after rest : List Item) (new : List reading.Item) (at : �
       → ((before new after : List reading.Item) → length before ≡ at → MayPass t bodies new → at + (length new + length after) < 2 ^ 64 → AreTablesOf (before ++ after) t → AreTablesOf (before ++ (new ++ after)) learnt)
       → ((new : List reading.Item) → AreOthersOf bodies new → HaveShortTexts (texts_at t.definitions at) new)
       → AreFollowed (before ++ (all_stored new ++ (after ++ rest))) learnt
-  come_followed learnt firm learn short =
+  come_followed learnt firm add_to_tables short =
       let again : List Item = take lead (all_stored new) in
       let parts : again ++ all_stored come ≡ all_stored new
       = ap (λ (l : List Item). again ++ l) (sym (drop-map stored lead new)) ∙ take-append-drop lead (all_stored new) in
       subst (λ (l : List Item). AreFollowed (before ++ l) learnt)
       (sym (append_assoc again (all_stored come) (after ++ rest)) ∙ ap (λ (l : List Item). l ++ (after ++ rest)) parts)
-      (followed_alike before stay again (all_stored come ++ (after ++ rest)) learnt (take lead new) (come_beside learnt firm learn short)
+      (followed_alike before stay again (all_stored come ++ (after ++ rest)) learnt (take lead new) (come_beside learnt firm add_to_tables short)
       (sym (take-map stored lead new)) (All-take (IsItem name_limit) lead new good) same)
 
   -- the tables say what they said
@@ -301,7 +287,7 @@ pub go_followed : (before gone rest : List Item) (at : ℕ) (t forgot : Tables) 
     → ((all : List reading.Item) → AreItemsOf bodies all → MayPass t bodies all) → at + (length gone + length rest) < 2 ^ 64 → (IsFirm t → IsFirm forgot)
     → ((before gone after : List reading.Item) → length before ≡ at → MayPass t bodies gone → at + (length gone + length after) < 2 ^ 64 → AreTablesOf (before ++ (gone ++ after)) t → AreTablesOf (before ++ after) forgot)
     → AreFollowed (before ++ rest) forgot
-go_followed before gone rest at t forgot bodies f long bodies_are may few firm forget =
+go_followed before gone rest at t forgot bodies f long bodies_are may few firm remove_from_tables =
     let p = parts_of before (gone ++ rest) f.all f.same in
     let q = parts_of gone rest p.last (sym p.last_is) in
     let whole : f.all ≡ p.first ++ (q.first ++ q.last) = p.whole ∙ ap (λ (l : List reading.Item). p.first ++ l) q.whole in
@@ -313,7 +299,7 @@ go_followed before gone rest at t forgot bodies f long bodies_are may few firm f
     let good : All (IsItem name_limit) (p.first ++ q.last)
     = All-append (IsItem name_limit) p.first q.last (good_first p.first p.last f.all p.whole f.good) (good_last q.first q.last p.last q.whole last_good) in
     let tables : AreTablesOf (p.first ++ q.last) forgot
-    = forget p.first q.first q.last (long_parts before p.first p.first_is ∙ long) pass
+    = remove_from_tables p.first q.first q.last (long_parts before p.first p.first_is ∙ long) pass
     (omega (arith, few, long_parts gone q.first q.first_is, long_parts rest q.last q.last_is)) (subst (λ (l : List reading.Item). AreTablesOf l t) whole f.tables) in
     record {
       all = p.first ++ q.last;

@@ -1,23 +1,14 @@
 -- Runs of pieces: the last run is inserted first and removed last.
-use Rattle.std.proofs.Common.{◌≡◌, ℕ, ◌+◌, ◌-◌, ◌≤◌, Bool, false, List, [], ◌∷◌, ◌++◌, length, take, drop, refl, sym, subst, ◌∙◌, ap, ap₂, arith, append_assoc, length-append, length-drop, take-append-drop}
-use Rattle.std.specs.List.{between, flat_map}
-use Rattle.std.proofs.lemmas.List.{take_all, take_at, drop_at, drop-drop, append-nil, drop-append-le, length-take-le, take-take, drop-take}
+use Rattle.bib_store.proofs.Words.{◌≡◌, ℕ, ◌+◌, ◌-◌, ◌≤◌, Bool, false, List, [], ◌∷◌, ◌++◌, length, take, drop, refl, sym, subst, ◌∙◌, ap, ap₂, arith, append_assoc, length-append, take-append-drop, between, flat_map, take_at, drop_at, drop-drop, drop-append-le, take-take, drop-take, Text, Reading}
+use Rattle.bib_store.proofs.Words.{Reads, item_bytes, Piece, Fit, applied, kept_bytes, all_stored, without_range, Change, Tables, IsFirm, AreItemsOf, MayPassBetween, IsRunChange, AreFollowed, StayFollowed, LeadWithin, all_moved_back, FitAfter, file_of, IsWindow, front_before, front_within}
+use Rattle.bib_store.proofs.Words.{bytes_before, bytes_within, bytes_after}
+use Rattle.std.proofs.Common.{length-drop}
+use Rattle.std.proofs.lemmas.List.{take_all, append-nil, length-take-le}
 use Rattle.std.proofs.lemmas.List.Concat.{flat_map-append}
-use Rattle.bib_spec.specs.Text.{Text}
-use Rattle.bib_spec.specs.Reading.{Reading, Reads, item_bytes}
-use Rattle.bib_spec.specs.Pieces.{Piece, Fit, applied}
 use Rattle.bib_items.specs.declared.list.Item.{Item}
-use Rattle.bib_items.specs.Items.{kept_bytes, all_stored, without_range}
-use Rattle.bib_store.specs.declared.change.Change.{Change}
-use Rattle.bib_store.specs.declared.tables.Tables.{Tables}
-use Rattle.bib_store.specs.Firm.{IsFirm}
-use Rattle.bib_store.specs.Following.{AreItemsOf, MayPassBetween}
-use Rattle.bib_store.specs.Runs.{IsRunChange, AreBroughtIn, AreFollowed, StayFollowed, FollowBroughtIn, ComesBack, LeadWithin}
-use Rattle.history_spec.specs.Shifting.{all_moved_back, FitAfter}
-use Rattle.bib_store.specs.Stored.{file_of}
-use Rattle.bib_store.specs.Windows.{IsWindow, front_before, front_within, bytes_before, bytes_within, bytes_after}
-use Rattle.bib_store.proofs.BroughtIn as brought_in
-use Rattle.bib_store.proofs.BroughtIn.{long_new, long_before, long_gone, long_now, before_put, come_put, gone_at, gone_put}
+use Rattle.bib_store.specs.Runs.{AreInserted, FollowInserted, ComesBack}
+use Rattle.bib_store.proofs.InsertedRuns as inserted_in
+use Rattle.bib_store.proofs.InsertedRuns.{long_new, long_before, long_gone, long_now, before_put, come_put, gone_at, gone_put}
 use Rattle.bib_store.proofs.FollowedFiles.{still_pass}
 use Rattle.bib_store.proofs.KeptItems.{bytes-stored}
 use Rattle.bib_store.proofs.KeptRuns.{bodies_in}
@@ -86,7 +77,7 @@ longer_back old t u to n order within back rest room f =
 -- ---- a run, and those before it
 
 module _ (front new_front : Text) (old put led_items : List Item) (t put_t led_t : Tables) (n count lead : ℕ) (ps run : List Piece) (c : Change) (r : IsRunChange run front old n c) (after_front : c.window.with_front ≡ false) (inner : Reading) (reads : Reads c.text inner)
-    (within : n ≤ length old) (brought : AreBroughtIn c t old put count lead) (led : LeadWithin ps c.window.from front put put_t new_front led_items led_t) where
+    (within : n ≤ length old) (inserted : AreInserted c t old put count lead) (led : LeadWithin ps c.window.from front put put_t new_front led_items led_t) where
   abbrev from : ℕ
   from = c.window.from
 
@@ -103,19 +94,19 @@ module _ (front new_front : Text) (old put led_items : List Item) (t put_t led_t
   order = r.change.window.ordered
 
   come : put ≡ take from old ++ (new ++ drop from old)
-  come = brought_in.put c old put count lead brought.put brought.leads inner reads
+  come = inserted_in.put c old put count lead inserted.put inserted.leads inner reads
 
   put_before : take from put ≡ take from old
-  put_before = before_put c old put count lead brought.put brought.leads inner reads
+  put_before = before_put c old put count lead inserted.put inserted.leads inner reads
 
   long : length new ≡ count
-  long = long_new c old put count lead brought.put brought.leads inner reads
+  long = long_new c old put count lead inserted.put inserted.leads inner reads
 
   pub long_put : length put ≡ length old + count
-  long_put = long_now c old put count lead brought.put brought.leads inner reads
+  long_put = long_now c old put count lead inserted.put inserted.leads inner reads
 
   put_after : drop from put ≡ new ++ drop from old
-  put_after = ap (drop from) come ∙ drop_at (take from old) (new ++ drop from old) from (long_before c old put count lead brought.put brought.leads inner reads)
+  put_after = ap (drop from) come ∙ drop_at (take from old) (new ++ drop from old) from (long_before c old put count lead inserted.put inserted.leads inner reads)
 
   led_parts : led_items ≡ (led.first ++ new) ++ drop from old
   led_parts = led.stay ∙ ap (λ l. led.first ++ l) put_after ∙ sym (append_assoc led.first new (drop from old))
@@ -133,13 +124,13 @@ module _ (front new_front : Text) (old put led_items : List Item) (t put_t led_t
   old_after at is = ap (drop at) led_parts ∙ drop_at (led.first ++ new) (drop from old) at (length-append led.first new ∙ sym is)
 
   led_gone : (at end : ℕ) → at ≡ length led.first + length new → end ≡ at + (to - from) → between (at + lead) end led_items ≡ gone
-  led_gone at end is ends = gone_at c old put count lead brought.put brought.leads inner reads led_items at end (old_after at is) ends
+  led_gone at end is ends = gone_at c old put count lead inserted.put inserted.leads inner reads led_items at end (old_after at is) ends
 
   -- they are the same
   pub old_may : (at end : ℕ) → at ≡ length led.first + length new → end ≡ at + (to - from) → (IsFirm t → IsFirm led_t) → MayPassBetween led_t (at + lead) end led_items
   old_may at end is ends firm all are =
-      let pass = brought.gone all
-      (subst (λ (bodies : List Text). AreItemsOf bodies all) (ap bodies_in (led_gone at end is ends ∙ sym (gone_put c old put count lead brought.put brought.leads inner reads))) are) in
+      let pass = inserted.gone all
+      (subst (λ (bodies : List Text). AreItemsOf bodies all) (ap bodies_in (led_gone at end is ends ∙ sym (gone_put c old put count lead inserted.put inserted.leads inner reads))) are) in
       record { are = are; may = (still_pass t led_t _ all firm pass).may }
 
   -- what is left once they are gone
@@ -167,7 +158,7 @@ module _ (front new_front : Text) (old put led_items : List Item) (t put_t led_t
   prefix_is = let h = r.to in sym (take-append-drop to prefix) ∙ ap (λ (l : List Item). l ++ drop to prefix) (take-take to n old h)
 
   -- the items that came stand before those that go
-  module _ (brought_t : FollowBroughtIn c lead old t put_t) (rest : List Item) (room : length rest ≤ length old - n) (f : AreFollowed (prefix ++ rest) t) where
+  module _ (inserted_t : FollowInserted c lead old t put_t) (rest : List Item) (room : length rest ≤ length old - n) (f : AreFollowed (prefix ++ rest) t) where
     abbrev after : List Item
     after = drop to prefix ++ rest
 
@@ -184,27 +175,27 @@ module _ (front new_front : Text) (old put led_items : List Item) (t put_t led_t
     with_run =
         subst (λ (l : List Item). AreFollowed l put_t)
         (append_assoc (take from old) (new ++ gone) after ∙ ap (λ (l : List Item). l ++ ((new ++ gone) ++ after)) (sym put_before))
-        (brought_t inner reads after long_after before_run)
+        (inserted_t inner reads after long_after before_run)
 
     pub few : length ((new ++ gone) ++ after) ≤ length put - from
     few =
         let a = long_put in
         let b = long_after in
-        let d = long_gone c old put count lead brought.put brought.leads inner reads in
-        let h = brought.leads.go in
+        let d = long_gone c old put count lead inserted.put inserted.leads inner reads in
+        let h = inserted.leads.go in
         let w = r.to in
         omega (arith, a, b, d, h, w, within, long, length-append (new ++ gone) after, length-append new gone)
 
-  run_followed : (new_t : Tables) (at end : ℕ) → at ≡ length led.first + length new → end ≡ at + (to - from) → FollowBroughtIn c lead old t put_t
+  run_followed : (new_t : Tables) (at end : ℕ) → at ≡ length led.first + length new → end ≡ at + (to - from) → FollowInserted c lead old t put_t
       → ((before : List Item) → length before ≡ at → StayFollowed (length led_items - end) (before ++ between (at + lead) end led_items) led_t before new_t)
       → StayFollowed (length old - n) prefix t (led.first ++ (new ++ drop to prefix)) new_t
-  run_followed new_t at end is ends brought_t taken rest room f =
+  run_followed new_t at end is ends inserted_t taken rest room f =
       let after : List Item = drop to prefix ++ rest in
-      let g = led.followed ((new ++ gone) ++ after) (few brought_t rest room f) (with_run brought_t rest room f) in
+      let g = led.followed ((new ++ gone) ++ after) (few inserted_t rest room f) (with_run inserted_t rest room f) in
       let same : led.first ++ ((new ++ gone) ++ after) ≡ ((led.first ++ new) ++ between (at + lead) end led_items) ++ after
       = (simp append_assoc) ∙ ap (λ (l : List Item). ((led.first ++ new) ++ l) ++ after) (sym (led_gone at end is ends)) in
       let a = long_led in
-      let b = long_after brought_t rest room f in
+      let b = long_after inserted_t rest room f in
       let o = order in
       let h = r.to in
       subst (λ (l : List Item). AreFollowed l new_t) (simp append_assoc)
@@ -255,10 +246,10 @@ module _ (front new_front : Text) (old put led_items : List Item) (t put_t led_t
       ∙ ap (λ (x : Text). applied (all_moved_back (length x) run) run_bytes) before_is
 
   pub run_led : (all : List Piece) (after : List Item) (new_t : Tables) (at end : ℕ) → all ≡ ps ++ run → at ≡ length led.first + length new → end ≡ at + (to - from) → after ≡ without_range at end led_items
-      → FollowBroughtIn c lead old t put_t
+      → FollowInserted c lead old t put_t
       → ((before : List Item) → length before ≡ at → StayFollowed (length led_items - end) (before ++ between (at + lead) end led_items) led_t before new_t)
       → LeadWithin all n front old t new_front after new_t
-  run_led all after new_t at end pieces is ends out brought_t taken =
+  run_led all after new_t at end pieces is ends out inserted_t taken =
       subst (λ (qs : List Piece). LeadWithin qs n front old t new_front after new_t) (sym pieces)
       (record {
         first = led.first ++ (new ++ drop to prefix);
@@ -272,19 +263,19 @@ module _ (front new_front : Text) (old put led_items : List Item) (t put_t led_t
             ∙ ap₂ (λ (x y : Text). x ++ (y ++ rest_bytes)) (led.made ∙ ap (λ (l : List Item). applied ps (file_of front l)) put_before) text_is
             ∙ sym (both_applied first_bytes run_bytes rest_bytes ps run first_fit run_fit)
             ∙ ap (applied (ps ++ run)) (sym prefix_parts);
-        followed = run_followed new_t at end is ends brought_t taken;
+        followed = run_followed new_t at end is ends inserted_t taken;
       })
 
 -- ---- a run, if one before it is refused
 
 pub run_back : (front : Text) (old put tried : List Item) (t put_t led_t taken_t : Tables) (n count lead : ℕ) (run : List Piece) (c : Change) → IsRunChange run front old n c → (inner : Reading) → Reads c.text inner
-    → n ≤ length old → AreBroughtIn c t old put count lead → tried ≡ put → FollowBroughtIn c lead old t put_t
+    → n ≤ length old → AreInserted c t old put count lead → tried ≡ put → FollowInserted c lead old t put_t
     → StayFollowed (length put - c.window.from) (take c.window.from put) put_t (take c.window.from put) led_t
     → ((before : List Item) → length before ≡ c.window.from + lead
     → StayFollowed (length tried - (c.window.from + count)) (before ++ between (c.window.from + lead) (c.window.from + count) tried) led_t before taken_t)
     → ComesBack c lead old
     → StayFollowed (length old - n) (take n old) t (take n old) taken_t
-run_back front old put tried t put_t led_t taken_t n count lead run c r inner reads within brought same brought_t back taken comes rest room f =
+run_back front old put tried t put_t led_t taken_t n count lead run c r inner reads within inserted same inserted_t back taken comes rest room f =
     let from : ℕ = c.window.from in
     let to : ℕ = c.window.to in
     let new : List Item = all_stored inner.items in
@@ -294,25 +285,25 @@ run_back front old put tried t put_t led_t taken_t n count lead run c r inner re
     let long_prefix : length prefix ≡ n = length-take-le n old within in
     let h = r.to in
     let o = r.change.window.ordered in
-    let high = brought.leads.go in
-    let low = brought.leads.come in
-    let long = long_new c old put count lead brought.put brought.leads inner reads in
-    let all = long_now c old put count lead brought.put brought.leads inner reads in
-    let wide = long_gone c old put count lead brought.put brought.leads inner reads in
-    let before_long = long_before c old put count lead brought.put brought.leads inner reads in
+    let high = inserted.leads.go in
+    let low = inserted.leads.come in
+    let long = long_new c old put count lead inserted.put inserted.leads inner reads in
+    let all = long_now c old put count lead inserted.put inserted.leads inner reads in
+    let wide = long_gone c old put count lead inserted.put inserted.leads inner reads in
+    let before_long = long_before c old put count lead inserted.put inserted.leads inner reads in
     let whole : prefix ++ rest ≡ take to old ++ after
     = ap (λ (l : List Item). l ++ rest) (sym (take-append-drop to prefix) ∙ ap (λ (l : List Item). l ++ drop to prefix) (take-take to n old h)) ∙ append_assoc (take to old) (drop to prefix) rest in
     let long_after : length after ≤ length old - to = omega (arith, h, room, within, long_prefix, length-append (drop to prefix) rest, length-drop to prefix) in
     let start : AreFollowed (take to old ++ after) t = subst (λ (l : List Item). AreFollowed l t) whole f in
-    let head = before_put c old put count lead brought.put brought.leads inner reads in
+    let head = before_put c old put count lead inserted.put inserted.leads inner reads in
     let with_run : AreFollowed (take from put ++ ((new ++ gone) ++ after)) put_t
     = subst (λ (l : List Item). AreFollowed l put_t) (append_assoc (take from old) (new ++ gone) after ∙ ap (λ (l : List Item). l ++ ((new ++ gone) ++ after)) (sym head))
-    (brought_t inner reads after long_after start) in
+    (inserted_t inner reads after long_after start) in
     let few : length ((new ++ gone) ++ after) ≤ length put - from = omega (arith, all, long_after, wide, high, h, within, long, length-append (new ++ gone) after, length-append new gone) in
     let g = back ((new ++ gone) ++ after) few with_run in
     let again : List Item = take lead new in
     let come : between (from + lead) (from + count) tried ≡ drop lead new
-    = ap (between (from + lead) (from + count)) same ∙ come_put c old put count lead brought.put brought.leads inner reads in
+    = ap (between (from + lead) (from + count)) same ∙ come_put c old put count lead inserted.put inserted.leads inner reads in
     let parts : take from put ++ ((new ++ gone) ++ after) ≡ ((take from old ++ again) ++ between (from + lead) (from + count) tried) ++ (gone ++ after)
     = ap₂ (λ (x y : List Item). x ++ ((y ++ gone) ++ after)) head (sym (take-append-drop lead new))
     ∙ (simp append_assoc)

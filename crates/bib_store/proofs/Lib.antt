@@ -1,4 +1,5 @@
 -- ---- records and cited lists
+pub mod Words
 pub mod Citations
 pub mod Filters
 pub mod GatheredFields
@@ -46,6 +47,6 @@ pub mod PlacedFiles
 pub mod BehindFirst
 -- ---- tables that follow runs of pieces
 pub mod KeptRuns
-pub mod BroughtIn
+pub mod InsertedRuns
 pub mod LedRuns
 mod FrontRuns

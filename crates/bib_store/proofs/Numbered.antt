@@ -1,10 +1,9 @@
 -- What is said of the items of a kind, in order, and the places of these items.
-use Rattle.std.proofs.Common.{◌≡◌, ℕ, zero, suc, ◌+◌, ◌<◌, Bool, true, false, List, [], ◌∷◌, ◌++◌, length, map, slice_get, Some, ⊎_elim, refl, sym, ◌∙◌, ap, subst, arith, add-zero, not-suc-le-zero, le_of_suc-le-suc}
-use Rattle.std.proofs.lemmas.Bool.{cases_Bool, cond-true, cond-false}
-use Rattle.bib_spec.specs.Tree.{Tree}
+use Rattle.bib_store.proofs.Words.{◌≡◌, ℕ, zero, suc, ◌+◌, ◌<◌, Bool, true, false, List, [], ◌∷◌, ◌++◌, length, map, Some, ⊎_elim, refl, sym, ◌∙◌, ap, subst, arith, not-suc-le-zero, le_of_suc-le-suc, cases_Bool, cond-true, cond-false, Tree, Macros, macros_after, macros_at, gathered, numbered}
+use Rattle.bib_store.proofs.Words.{numbers}
+use Rattle.std.proofs.Common.{slice_get, add-zero}
 use Rattle.bib_spec.specs.Reading.{Item}
-use Rattle.bib_spec.specs.Texts.{Macros, macros_after, macros_at, gathered}
-use Rattle.bib_numbers.specs.Numbers.{numbered, numbers, those}
+use Rattle.bib_numbers.specs.Numbers.{those}
 
 -- item n of a kind: where it stands, and what is said of it there
 pub record StandsAt {X : Type 0} (test : Tree → Bool) (say : Macros → Tree → List X) (m : Macros) (from : ℕ) (items : List Item) (n : ℕ) : Type 0 where

@@ -1,20 +1,12 @@
 -- What is said of items, with one item more.
-use Rattle.std.proofs.Common.{◌≡◌, ℕ, ◌+◌, ◌≤◌, Bool, true, false, List, [], ◌∷◌, ◌++◌, length, map, filter, nat_lt, Option, Some, None, option_map, ⊎_elim, refl, sym, ◌∙◌, ap, subst, arith, append-nil, append_assoc, length-append}
+use Rattle.bib_store.proofs.Words.{◌≡◌, ℕ, ◌+◌, ◌≤◌, Bool, true, false, List, [], ◌∷◌, ◌++◌, length, map, filter, nat_lt, Option, Some, None, option_map, ⊎_elim, refl, sym, ◌∙◌, ap, subst, arith, append_assoc, length-append, flat_map, enumerate_from, AllByRecursion, option_or, cases_Bool, cond-true}
+use Rattle.bib_store.proofs.Words.{cond-false, none-some, same_Some, filter-append, map-append, Text, comma, equals_sign, Tree, CommentTree, DefinitionTree, PreambleTree, EntryTree, Row, tree_bytes, row_bytes, value_bytes, assignment_bytes, opening_bytes, entry_bytes, after_key_bytes}
+use Rattle.bib_store.proofs.Words.{last_comma_bytes, close_byte, item_bytes, Macros, raw_limit, macros_after, macros_at, gathered, raw_texts_from, raw_texts_in, value_places, row_places, bytes_before_value, gathered-append, first_too_long, placed_texts}
+use Rattle.std.proofs.Common.{append-nil}
 use Rattle.std.specs.Prelude.{find}
-use Rattle.std.specs.List.{zip, flat_map, enumerate_from, AllByRecursion}
-use Rattle.std.specs.Option.{option_or}
-use Rattle.std.proofs.lemmas.Bool.{cases_Bool, cond-true, cond-false}
-use Rattle.std.proofs.lemmas.Option.{none-some, same_Some}
+use Rattle.std.specs.List.{zip}
 use Rattle.std.proofs.lemmas.List.Folds.{find-append}
-use Rattle.std.proofs.lemmas.List.Elements.{filter-append}
-use Rattle.std.proofs.lemmas.List.{map-append}
-use Rattle.bib_spec.specs.Text.{Text}
-use Rattle.bib_spec.specs.Bytes.{comma, equals_sign}
-use Rattle.bib_spec.specs.Tree.{Tree, CommentTree, DefinitionTree, PreambleTree, EntryTree, Row, tree_bytes, row_bytes, value_bytes, assignment_bytes, opening_bytes, entry_bytes, after_key_bytes, last_comma_bytes, close_byte}
-use Rattle.bib_spec.specs.Reading.{Item, item_bytes}
-use Rattle.bib_spec.specs.Texts.{Macros, raw_limit, macros_after, macros_at, gathered, raw_texts_from, raw_texts_in, value_places, row_places, bytes_before_value}
-use Rattle.bib_definitions.proofs.MacrosAfter.{gathered-append}
-use Rattle.bib_store.specs.ItemTexts.{first_too_long, placed_texts}
+use Rattle.bib_spec.specs.Reading.{Item}
 
 -- ---- what is gathered
 

@@ -1,23 +1,13 @@
 -- A file that is opened: its items are put into a list, and the tables are made.
-use Rattle.std.proofs.Common.{◌≡◌, ℕ, ◌≤◌, List, [], length, slice_get, Option, Some, None, option_map, refl, sym, ◌∙◌, ap, ap₂, subst}
-use Rattle.std.proofs.lemmas.Option.{none-some, same_Some, slice_get_within, get_or_from_slice_get, slice_get-map}
-use Rattle.bib_spec.specs.Bytes.{file_limit}
-use Rattle.bib_spec.specs.Text.{Text}
-use Rattle.bib_spec.specs.Reading.{Reading, Reads}
-use Rattle.bib_spec.specs.Texts.{IsOpenable}
-use Rattle.bib_spec.specs.Bytes.{name_limit}
-use Rattle.bib_spec.specs.Tree.{IsTree, tree_bytes}
+use Rattle.bib_store.proofs.Words.{◌≡◌, ℕ, ◌≤◌, List, [], length, Option, Some, None, option_map, refl, sym, ◌∙◌, ap, ap₂, subst, none-some, same_Some, slice_get_within, get_or_from_slice_get, slice_get-map, file_limit, Text, Reading, Reads, IsOpenable, name_limit, IsTree, tree_bytes, IsLayoutOf}
+use Rattle.bib_store.proofs.Words.{Note, Tables, stored, all_stored, OfReading, AreNotesOf, file_of, IsKeptAs, IsKept}
+use Rattle.std.proofs.Common.{slice_get}
 use Rattle.bib_spec.specs.Reading as reading
-use Rattle.bib_scan.specs.Layout.{Places, IsLayoutOf}
+use Rattle.bib_scan.specs.Layout.{Places}
 use Rattle.bib_scan.specs.Note.{note_of}
-use Rattle.bib_scan.specs.declared.note.Note.{Note}
 use Rattle.bib_scan.proofs.NoteLaws.{same_note}
 use Rattle.bib_items.specs.declared.list.Item.{Item}
-use Rattle.bib_store.specs.declared.tables.Tables.{Tables}
-use Rattle.bib_items.specs.Items.{stored, all_stored}
-use Rattle.bib_store.specs.Meaning.{OfReading}
-use Rattle.bib_store.specs.Beside.{AreNotesOf}
-use Rattle.bib_store.specs.Stored.{file_of, IsTaken, AreTablesOfFile, IsKeptAs, IsKept}
+use Rattle.bib_store.specs.Stored.{IsTaken, AreTablesOfFile}
 use Rattle.bib_store.proofs.KeptItems.{file-stored}
 
 -- ---- the file

@@ -1,19 +1,11 @@
 -- Items that a search passes over.
-use Rattle.std.proofs.Common.{◌≡◌, ℕ, ◌-◌, false, ◌||◌, List, [], ◌∷◌, take, drop, refl, ◌∙◌, ap, subst, All}
-use Rattle.std.specs.List.{between}
-use Rattle.std.proofs.lemmas.List.{take-map, drop-map}
-use Rattle.std.proofs.lemmas.List.Elements.{All-head, All-tail, All-take, All-drop}
-use Rattle.bib_spec.specs.Bytes.{name_limit}
+use Rattle.bib_store.proofs.Words.{◌≡◌, ℕ, ◌-◌, false, ◌||◌, List, [], ◌∷◌, take, drop, refl, ◌∙◌, ap, subst, between, take-map, drop-map, All-head, All-tail, All-take, All-drop, name_limit, Reading, IsItem, Text, stored, all_stored, Tables, IsKeptAs}
+use Rattle.std.proofs.Common.{All}
 use Rattle.bib_spec.specs.Reading as reading
-use Rattle.bib_spec.specs.Reading.{Reading, IsItem}
-use Rattle.bib_spec.specs.Text.{Text}
 use Rattle.part_spec.specs.Parts.{have_part}
 use Rattle.bib_items.specs.declared.list.Item.{Item}
 use Rattle.bib_items.specs.declared.seeking.Sought.{Sought}
-use Rattle.bib_items.specs.Items.{stored, all_stored}
 use Rattle.bib_items.specs.Seeking.{test_of, LacksPart, LackPart}
-use Rattle.bib_store.specs.declared.tables.Tables.{Tables}
-use Rattle.bib_store.specs.Stored.{IsKeptAs}
 
 module _ (s : Sought) where
   lack-part : (items : List reading.Item) → All (IsItem name_limit) items → LackPart s (all_stored items) → have_part (test_of s) items ≡ false

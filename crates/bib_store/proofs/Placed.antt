@@ -1,28 +1,10 @@
 -- An item replaces another of its kind: what is said of the items stays, except for its texts.
-use Rattle.std.proofs.Common.{◌≡◌, ℕ, zero, suc, ◌+◌, cond, Bool, true, false, List, [], ◌∷◌, ◌++◌, length, map, Option, Some, None, option_map, refl, sym, ◌∙◌, ap, ap₂, subst}
-use Rattle.std.specs.List.{zip, flat_map}
-use Rattle.std.specs.Option.{option_or}
-use Rattle.std.proofs.lemmas.Option.{none-some}
-use Rattle.std.proofs.lemmas.List.{map-append}
-use Rattle.bib_spec.specs.Text.{Text}
-use Rattle.bib_spec.specs.Tree.{Tree, Entry, EntryTree}
-use Rattle.bib_spec.specs.Reading.{Item, item_bytes}
-use Rattle.bib_spec.specs.Texts.{Macros, months, macros_after, macros_at, gathered, raw_texts_from, raw_texts_in, value_places}
-use Rattle.bib_spec.specs.Records.{EntryTexts, texts_of, entry_in, keys_of, crossref_text}
-use Rattle.bib_store.specs.declared.tables.Tables.{Tables}
-use Rattle.bib_store.specs.Meaning.{is_entry_tree}
-use Rattle.bib_store.specs.Tables.{is_preamble_tree}
-use Rattle.bib_entries.specs.EntryTable.{IsTableOf}
-use Rattle.bib_definitions.proofs.AlikeDefinitions.{definitions_alike}
-use Rattle.bib_definitions.specs.Definitions.{is_definition_tree, defined_by, definitions_in}
-use Rattle.bib_store.specs.Bounds.{IsBounded, AreBounded}
+use Rattle.bib_store.proofs.Words.{◌≡◌, ℕ, zero, suc, ◌+◌, cond, Bool, true, false, List, [], ◌∷◌, ◌++◌, length, map, Option, Some, None, option_map, refl, sym, ◌∙◌, ap, ap₂, subst, flat_map, option_or, none-some, map-append, Text, Tree, Entry, EntryTree, item_bytes, Macros, months, macros_after}
+use Rattle.bib_store.proofs.Words.{macros_at, gathered, raw_texts_from, raw_texts_in, value_places, EntryTexts, texts_of, entry_in, keys_of, crossref_text, Tables, is_entry_tree, is_preamble_tree, IsTableOf, definitions_alike, is_definition_tree, defined_by, definitions_in, IsBounded, AreBounded}
+use Rattle.bib_store.proofs.Words.{first_too_long, placed_texts, AreTablesOf, with_bounds, Bounds, numbered, numbers, gathered-append}
+use Rattle.std.specs.List.{zip}
+use Rattle.bib_spec.specs.Reading.{Item}
 use Rattle.bib_store.proofs.BoundedItems.{bounded_with, bounded_without}
-use Rattle.bib_store.specs.ItemTexts.{first_too_long, placed_texts}
-use Rattle.bib_store.specs.Beside.{AreTablesOf}
-use Rattle.bib_store.specs.InPlace.{with_bounds}
-use Rattle.bib_store.specs.declared.bounds.Bounds.{Bounds}
-use Rattle.bib_numbers.specs.Numbers.{numbered, numbers}
-use Rattle.bib_definitions.proofs.MacrosAfter.{gathered-append}
 use Rattle.bib_store.proofs.OneItemMore.{raw_texts-append, first-append, first-shift}
 
 -- ---- numbers

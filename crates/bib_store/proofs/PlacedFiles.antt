@@ -1,26 +1,12 @@
 -- The list and the file of a change whose items each replace one of its window.
-use Rattle.std.proofs.Common.{◌≡◌, ℕ, ◌+◌, ◌-◌, ◌≤◌, ◌<◌, List, [], ◌∷◌, ◌++◌, length, map, take, drop, set, slice_get, Some, None, refl, sym, subst, ◌∙◌, ap, ap₂, arith, take-append-drop, All}
-use Rattle.std.specs.List.{between}
-use Rattle.std.proofs.lemmas.List.{take-map, drop-map, drop-drop, take-set, drop-set, length-take-le}
-use Rattle.std.proofs.lemmas.List.Elements.{All-take, All-drop}
-use Rattle.bib_spec.specs.Bytes.{name_limit}
-use Rattle.bib_spec.specs.Text.{Text}
-use Rattle.bib_spec.specs.Tree.{tree_bytes}
+use Rattle.bib_store.proofs.Words.{◌≡◌, ℕ, ◌+◌, ◌-◌, ◌≤◌, ◌<◌, List, [], ◌∷◌, ◌++◌, length, map, take, drop, set, Some, None, refl, sym, subst, ◌∙◌, ap, ap₂, arith, take-append-drop, between, take-map, drop-map, drop-drop, All-take, All-drop, name_limit, Text, tree_bytes, Reading, Reads, IsItem}
+use Rattle.bib_store.proofs.Words.{months, raw_texts_from, too_long_at, IsLayoutOf, one_reading, item, stored, all_stored, Change, Tables, AreTables, AreTablesOf, bodies_between, AreItemsOf, TakePlaces, first_too_long, IsWindow, OfJoined, exchanged, joined}
+use Rattle.std.proofs.Common.{slice_get, All}
+use Rattle.std.proofs.lemmas.List.{take-set, drop-set, length-take-le}
 use Rattle.bib_spec.specs.Reading as reading
-use Rattle.bib_spec.specs.Reading.{Reading, Reads, IsItem}
-use Rattle.bib_spec.specs.Texts.{months, raw_texts_from, too_long_at}
-use Rattle.bib_scan.specs.Layout.{IsLayoutOf, places_of}
-use Rattle.bib_scan.proofs.OneReading.{one_reading}
+use Rattle.bib_scan.specs.Layout.{places_of}
 use Rattle.bib_scan.proofs.LayoutLaws.{length-places}
 use Rattle.bib_items.specs.declared.list.Item.{Item}
-use Rattle.bib_items.specs.Items.{item, stored, all_stored}
-use Rattle.bib_store.specs.declared.change.Change.{Change}
-use Rattle.bib_store.specs.declared.tables.Tables.{Tables}
-use Rattle.bib_store.specs.Beside.{AreTables, AreTablesOf}
-use Rattle.bib_store.specs.Following.{bodies_between, AreItemsOf}
-use Rattle.bib_store.specs.InPlace.{TakePlaces}
-use Rattle.bib_store.specs.ItemTexts.{first_too_long}
-use Rattle.bib_store.specs.Windows.{IsWindow, OfJoined, exchanged, joined}
 use Rattle.bib_store.proofs.Appended.{fit_alike}
 use Rattle.bib_store.proofs.FollowedFiles.{bodies-stored}
 use Rattle.bib_store.proofs.KeptItems.{count_kept, trees_good}

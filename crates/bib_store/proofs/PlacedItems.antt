@@ -1,30 +1,14 @@
 -- Items that each replace one of their kind: what the tables say then.
-use Rattle.std.proofs.Common.{◌≡◌, ℕ, zero, suc, ◌+◌, ◌<◌, ◌≤◌, Bool, true, false, List, [], ◌∷◌, ◌++◌, length, map, take, drop, slice_get, Option, Some, None, refl, sym, ◌∙◌, ap, ap₂, subst, arith, append_assoc, length-append, take_all, length-take-le, All}
-use Rattle.std.proofs.lemmas.Option.{none-some, same_Some, slice_get_within}
-use Rattle.std.proofs.lemmas.List.{drop_all}
-use Rattle.std.proofs.lemmas.List.Elements.{All-append, All-take, All-drop}
-use Rattle.bib_spec.specs.Bytes.{name_limit}
-use Rattle.bib_spec.specs.Text.{Text}
-use Rattle.bib_spec.specs.Tree.{Tree, Entry, CommentTree, DefinitionTree, PreambleTree, EntryTree, IsTree, tree_bytes}
-use Rattle.bib_spec.specs.Reading.{Item, IsItem}
-use Rattle.bib_spec.specs.Texts.{Macros, months, macros_after, macros_at, gathered, raw_texts_from}
-use Rattle.bib_spec.specs.Records.{EntryTexts, texts_of, entry_in, keys_of, crossref_text}
-use Rattle.bib_scan.specs.View.{View, view_of, key_of, kind_of}
+use Rattle.bib_store.proofs.Words.{◌≡◌, ℕ, zero, suc, ◌+◌, ◌<◌, ◌≤◌, Bool, true, false, List, [], ◌∷◌, ◌++◌, length, map, take, drop, Option, Some, None, refl, sym, ◌∙◌, ap, ap₂, subst, arith, append_assoc, length-append, none-some, same_Some, slice_get_within, drop_all, All-append, All-take}
+use Rattle.bib_store.proofs.Words.{All-drop, name_limit, Text, Tree, Entry, CommentTree, DefinitionTree, PreambleTree, EntryTree, IsTree, tree_bytes, IsItem, Macros, months, macros_after, macros_at, gathered, raw_texts_from, EntryTexts, texts_of, entry_in, keys_of, crossref_text, View, view_of}
+use Rattle.bib_store.proofs.Words.{key_of, kind_of, tree_unique, IsTableOf, texts_at, is_definition_tree, defined_by, definitions_in, AreDefinitionsOf, definitions_alike, macros_in_front, gathered-append, Bounds, Tables, AreTablesOf, OfView, item_with, IsSettled, Admits, AreItemsOf, TakePlaces}
+use Rattle.bib_store.proofs.Words.{with_bounds, first_too_long, placed_texts, is_entry_tree, is_preamble_tree}
+use Rattle.std.proofs.Common.{slice_get, take_all, length-take-le, All}
+use Rattle.bib_spec.specs.Reading.{Item}
 use Rattle.bib_scan.specs.declared.view.Kind.TheVariants as kind
-use Rattle.bib_scan.proofs.OneReading.{tree_unique}
-use Rattle.bib_entries.specs.EntryTable.{IsTableOf}
-use Rattle.bib_definitions.specs.Definitions.{texts_at, is_definition_tree, defined_by, definitions_in, AreDefinitionsOf}
-use Rattle.bib_definitions.proofs.AlikeDefinitions.{definitions_alike}
-use Rattle.bib_definitions.proofs.MacrosAfter.{macros_in_front, gathered-append}
-use Rattle.bib_store.specs.declared.bounds.Bounds.{Bounds}
-use Rattle.bib_store.specs.declared.tables.Tables.{Tables}
-use Rattle.bib_store.specs.Beside.{AreTablesOf, AreSeen, TakesPlace, OfView, item_with}
-use Rattle.bib_store.specs.Bounds.{IsSettled, IsSettledEntry, Admits}
-use Rattle.bib_store.specs.Following.{AreItemsOf}
-use Rattle.bib_store.specs.InPlace.{HaveOneKey, TakePlaces, with_bounds}
-use Rattle.bib_store.specs.ItemTexts.{first_too_long, placed_texts}
-use Rattle.bib_store.specs.Meaning.{is_entry_tree}
-use Rattle.bib_store.specs.Tables.{is_preamble_tree}
+use Rattle.bib_store.specs.TablesOf.{AreSeen, TakesPlace}
+use Rattle.bib_store.specs.Bounds.{IsSettledEntry}
+use Rattle.bib_store.specs.InPlace.{HaveOneKey}
 use Rattle.bib_store.proofs.Placed.{placed_tables, numbers_same, macros_same, still_fits}
 use Rattle.bib_store.proofs.Appended.{trees, trees_between, tables_alike, fit_alike}
 use Rattle.bib_store.proofs.BoundedItems.{bounded_with, bounded_without, settled_preamble, settled_comment}

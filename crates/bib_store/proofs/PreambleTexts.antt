@@ -1,17 +1,9 @@
 -- The text of a preamble, from the bytes of its value.
-use Rattle.std.proofs.Common.{◌≡◌, ℕ, ◌<◌, ◌≤◌, length, slice_get, Some, sym, ◌∙◌, ap, ap₂, subst}
-use Rattle.std.specs.List.{AllByRecursion}
-use Rattle.std.proofs.lemmas.Option.{same_Some}
-use Rattle.bib_spec.specs.Bytes.{name_limit}
-use Rattle.bib_spec.specs.Text.{Text}
-use Rattle.bib_spec.specs.Tree.{Tree, Value, Preamble, PreambleTree, IsValue, IsTree, IsPreamble, value_bytes}
-use Rattle.bib_spec.specs.Reading.{Item, Reading, IsItem}
-use Rattle.bib_spec.specs.Texts.{Macros, months, macros_at, raw_text, raw_texts_in, raw_limit, Opens}
-use Rattle.bib_spec.specs.Records.{preambles_of}
-use Rattle.bib_scan.specs.View.{View, view_of}
-use Rattle.bib_scan.proofs.TakenApart.{one_value}
-use Rattle.bib_value.specs.Raw.{OfValue}
-use Rattle.bib_store.specs.Tables.{preamble_numbers}
+use Rattle.bib_store.proofs.Words.{◌≡◌, ℕ, ◌<◌, ◌≤◌, length, Some, sym, ◌∙◌, ap, ap₂, subst, AllByRecursion, same_Some, name_limit, Text, Tree, Value, Preamble, PreambleTree, IsValue, IsTree, value_bytes, Reading, IsItem, Macros, months, macros_at, raw_text, raw_texts_in, raw_limit, Opens}
+use Rattle.bib_store.proofs.Words.{preambles_of, View, view_of, one_value, OfValue, preamble_numbers}
+use Rattle.std.proofs.Common.{slice_get}
+use Rattle.bib_spec.specs.Tree.{IsPreamble}
+use Rattle.bib_spec.specs.Reading.{Item}
 use Rattle.bib_store.proofs.KeptItems.{item_in}
 use Rattle.bib_store.proofs.EntryItems.{IsPreambleAt, preamble_at}
 use Rattle.bib_store.proofs.ShortTexts.{IsShort, texts_short}

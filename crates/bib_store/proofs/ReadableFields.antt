@@ -1,23 +1,13 @@
 -- The fields of entries of a file that can be opened can be read, and what is gathered of them.
-use Rattle.std.proofs.Common.{◌≡◌, ℕ, ◌≤◌, List, [], ◌∷◌, ◌++◌, length, map, Some, None, slice_get, refl, sym, ◌∙◌, ap, subst}
-use Rattle.std.specs.List.{AllZip, AllByRecursion}
-use Rattle.std.specs.Option.{option_map_or}
-use Rattle.std.proofs.lemmas.Option.{same_Some, slice_get_within, get_or_from_slice_get}
+use Rattle.bib_store.proofs.Words.{◌≡◌, ℕ, ◌≤◌, List, [], ◌∷◌, ◌++◌, length, map, Some, None, refl, sym, ◌∙◌, ap, subst, AllZip, AllByRecursion, option_map_or, same_Some, slice_get_within, get_or_from_slice_get, name_limit, Text, Row, Value, Entry, Tree, row_bytes, IsRow, IsTree, opening_bytes}
+use Rattle.bib_store.proofs.Words.{Reading, Reads, Macros, months, macros_at, raw_text, raw_texts_in, raw_limit, too_long_at, fields_after, fields_of, one_value, RecordField, entries_of, own_fields, field_of, fields_at, missing, macros_seen, IsReadable, IsFieldOf, with_fields, entry_numbers}
+use Rattle.std.proofs.Common.{slice_get}
 use Rattle.std.proofs.lemmas.List.Elements.{recursion_from_All}
-use Rattle.bib_spec.specs.Bytes.{name_limit}
-use Rattle.bib_spec.specs.Text.{Text}
-use Rattle.bib_spec.specs.Tree.{Row, Value, Entry, Tree, row_bytes, IsRow, IsEntry, IsTree, opening_bytes}
-use Rattle.bib_spec.specs.Reading.{Item, Reading, Reads}
-use Rattle.bib_spec.specs.Texts.{Macros, months, macros_at, raw_text, raw_texts_in, raw_limit, too_long_at}
-use Rattle.bib_scan.specs.View.{fields_after, fields_of}
-use Rattle.bib_scan.proofs.TakenApart.{one_value}
+use Rattle.bib_spec.specs.Tree.{IsEntry}
+use Rattle.bib_spec.specs.Reading.{Item}
 use Rattle.folded_map.proofs.Entries.{name_short}
-use Rattle.bib_spec.specs.Records.{RecordField, entries_of, own_fields, field_of, fields_at, missing}
 use Rattle.bib_definitions.specs.declared.macros_at.MacrosAt.{MacrosAt}
-use Rattle.bib_definitions.specs.MacrosSeen.{macros_seen}
-use Rattle.bib_store.specs.Gathering.{IsReadable, IsFieldOf, with_fields}
 use Rattle.bib_store.proofs.GatheredFields.{gathered_missing}
-use Rattle.bib_store.specs.Meaning.{entry_numbers}
 use Rattle.bib_store.proofs.EntryItems.{IsEntryAt}
 use Rattle.bib_store.proofs.ShortTexts.{IsShort, texts_short}
 

@@ -1,13 +1,9 @@
 -- Which earlier entry has a key.
-use Rattle.std.proofs.Common.{◌≡◌, ◌≤◌, ℕ, zero, suc, Bool, true, false, cond, ◌||◌, nat_lt, List, [], ◌∷◌, Option, Some, None, option_map, take, slice_get, count_by, ⊎_elim, refl, sym, ◌∙◌, ap, arith}
-use Rattle.std.specs.List.{list_any}
-use Rattle.std.specs.Option.{option_map_or}
-use Rattle.std.proofs.lemmas.Bool.{cases_Bool, cases_lt, lt-ltb, le-ltb, both_ways}
-use Rattle.std.proofs.lemmas.List.{take-map}
-use Rattle.std.proofs.lemmas.Option.{none-some, same_Some}
-use Rattle.bib_spec.specs.Text.{Text, folded}
-use Rattle.bib_spec.specs.Records.{EntryTexts, keys_of, is_named, first_named, is_repeated}
-use Rattle.bib_spec.proofs.Names.{true-eq}
+use Rattle.bib_store.proofs.Words.{◌≡◌, ◌≤◌, ℕ, zero, suc, Bool, true, false, cond, ◌||◌, nat_lt, List, [], ◌∷◌, Option, Some, None, option_map, take, count_by, ⊎_elim, refl, sym, ◌∙◌, ap, arith, list_any, option_map_or, cases_Bool, lt-ltb, le-ltb, both_ways, take-map, none-some, same_Some, Text}
+use Rattle.bib_store.proofs.Words.{folded, EntryTexts, keys_of, true-eq}
+use Rattle.std.proofs.Common.{slice_get}
+use Rattle.std.proofs.lemmas.Bool.{cases_lt}
+use Rattle.bib_spec.specs.Records.{is_named, first_named, is_repeated}
 use Rattle.bib_spec.proofs.Counts.{count-yes, count-no}
 use Rattle.bib_entries.specs.EntryTable.{AreApart}
 use Rattle.bib_entries.proofs.Tables.{map-at}

@@ -1,18 +1,11 @@
 -- The texts of an entry's rows, row by row.
-use Rattle.std.proofs.Common.{◌≡◌, ℕ, ◌+◌, ◌<◌, ◌≤◌, List, [], ◌∷◌, ◌++◌, length, map, nat_lt, Option, Some, None, option_map, ⊎_elim, refl, sym, ◌∙◌, ap, arith, length-append, All}
+use Rattle.bib_store.proofs.Words.{◌≡◌, ℕ, ◌+◌, ◌<◌, ◌≤◌, List, [], ◌∷◌, ◌++◌, length, map, nat_lt, Option, Some, None, option_map, ⊎_elim, refl, sym, ◌∙◌, ap, arith, length-append, option_or, cases_Bool, cond-true, cond-false, le-ltb, lt-ltb, All-head, All-tail, comma, equals_sign, name_limit}
+use Rattle.bib_store.proofs.Words.{Text, same, Row, IsRow, value_bytes, row_bytes, Macros, raw_text, raw_limit, field_text, row_start, bytes_before_value, field_of, has_name, crossref, field_after, fields_after, OfValue, first_too_long, row_texts, crossref_in, OfRows}
+use Rattle.std.proofs.Common.{All}
 use Rattle.std.specs.Prelude.{find}
-use Rattle.std.specs.Option.{option_or}
-use Rattle.std.proofs.lemmas.Bool.{cases_Bool, cond-true, cond-false, le-ltb, lt-ltb}
-use Rattle.std.proofs.lemmas.List.Elements.{All-head, All-tail}
-use Rattle.bib_spec.specs.Bytes.{comma, equals_sign, name_limit}
-use Rattle.bib_spec.specs.Text.{Text, same}
-use Rattle.bib_spec.specs.Tree.{Row, IsRow, value_bytes, row_bytes}
-use Rattle.bib_spec.specs.Texts.{Macros, raw_text, raw_limit, field_text, row_start, bytes_before_value}
 use Rattle.bib_spec.specs.Records as records
-use Rattle.bib_spec.specs.Records.{field_of, has_name, crossref}
-use Rattle.bib_scan.specs.View.{Field, field_after, fields_after}
-use Rattle.bib_value.specs.Raw.{OfValue}
-use Rattle.bib_store.specs.ItemTexts.{first_too_long, row_texts, said_by, crossref_in, OfRows}
+use Rattle.bib_scan.specs.View.{Field}
+use Rattle.bib_store.specs.ItemTexts.{said_by}
 
 -- ---- lists
 

@@ -1,12 +1,8 @@
 -- Pieces in two parts: the later ones lie after the text that the earlier ones fit.
-use Rattle.std.proofs.Common.{◌≡◌, ℕ, ◌+◌, ◌≤◌, List, [], ◌∷◌, ◌++◌, length, drop, refl, sym, ◌∙◌, ap, ap₂, arith, append_assoc, length-append}
-use Rattle.std.proofs.lemmas.List.{take_at, drop-append-le}
-use Rattle.std.specs.List.{AllByRecursion}
-use Rattle.bib_spec.specs.Text.{Text}
-use Rattle.bib_spec.specs.Pieces.{Piece, end_of, Stands, AscendFrom, Fit, EndBy, BeginFrom, applied_from, applied}
+use Rattle.bib_store.proofs.Words.{◌≡◌, ℕ, ◌+◌, ◌≤◌, List, [], ◌∷◌, ◌++◌, length, drop, refl, sym, ◌∙◌, ap, ap₂, arith, append_assoc, length-append, take_at, drop-append-le, AllByRecursion, Text, Piece, Fit, applied, all_moved_back, FitAfter, fit-after}
+use Rattle.bib_spec.specs.Pieces.{end_of, Stands, AscendFrom, EndBy, BeginFrom, applied_from}
 use Rattle.bib_spec.proofs.PieceLemmas.{drop-place, stands_before, applied_from-append}
-use Rattle.history_spec.specs.Shifting.{all_moved_back, FitAfter}
-use Rattle.history_spec.proofs.Shifts.{fit-after, applied-from_after}
+use Rattle.history_spec.proofs.Shifts.{applied-from_after}
 
 -- a piece that fits a text fits a longer one
 stands_longer : (text more : Text) (p : Piece) → Stands text p → Stands (text ++ more) p

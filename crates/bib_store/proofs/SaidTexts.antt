@@ -1,18 +1,9 @@
 -- What an entry says, and which of its texts is too long, by its rows.
-use Rattle.std.proofs.Common.{◌≡◌, ℕ, true, List, [], ◌∷◌, ◌++◌, length, map, Option, Some, None, sym, ◌∙◌, ap, subst, append_assoc}
+use Rattle.bib_store.proofs.Words.{◌≡◌, ℕ, true, List, [], ◌∷◌, ◌++◌, length, map, Option, Some, None, sym, ◌∙◌, ap, subst, append_assoc, name_limit, Text, Tree, EntryTree, Entry, IsTree, opening_bytes, Reading, Reads, IsItem, Macros, entry_in, crossref_text, View, view_of, fields_of, ItemFault}
+use Rattle.bib_store.proofs.Words.{TooLong, is_entry_tree, first_too_long, placed_texts, row_texts, crossref_in, OfRows}
 use Rattle.std.specs.Prelude.{Result, Ok, Err, IfErr}
-use Rattle.bib_spec.specs.Bytes.{name_limit}
-use Rattle.bib_spec.specs.Text.{Text}
-use Rattle.bib_spec.specs.Tree.{Tree, EntryTree, Entry, IsTree, opening_bytes}
 use Rattle.bib_spec.specs.Reading as reading
-use Rattle.bib_spec.specs.Reading.{Reading, Reads, IsItem}
-use Rattle.bib_spec.specs.Texts.{Macros}
-use Rattle.bib_spec.specs.Records.{entry_in, crossref_text}
-use Rattle.bib_scan.specs.View.{View, Field, view_of, fields_of}
-use Rattle.bib_store.specs.declared.item_fault.ItemFault.{ItemFault}
-use Rattle.bib_store.specs.declared.item_fault.ItemFault.TheVariants.{TooLong}
-use Rattle.bib_store.specs.Meaning.{is_entry_tree}
-use Rattle.bib_store.specs.ItemTexts.{first_too_long, placed_texts, row_texts, crossref_in, OfRows}
+use Rattle.bib_scan.specs.View.{Field}
 use Rattle.bib_store.proofs.EntryItems.{entry_tree}
 
 pub entry_says : (m : Macros) (v : View) (text : Option Text) → OfRows v.fields (λ before rows. text ≡ crossref_in m rows) → (i : reading.Item) → IsTree name_limit i.tree → is_entry_tree i.tree ≡ true → v ≡ view_of i

@@ -1,16 +1,7 @@
 -- Items that are settled: what is said of them stays when a definition comes or goes before them.
-use Rattle.std.proofs.Common.{◌≡◌, true, List, [], ◌∷◌, ◌++◌, length, map, Option, refl, sym, ◌∙◌, ap, ap₂}
-use Rattle.std.proofs.lemmas.List.{map-append}
-use Rattle.bib_spec.specs.Text.{Text}
-use Rattle.bib_spec.specs.Tree.{Tree, Definition, CommentTree, DefinitionTree, PreambleTree, EntryTree}
+use Rattle.bib_store.proofs.Words.{◌≡◌, true, List, [], ◌∷◌, ◌++◌, length, map, Option, refl, sym, ◌∙◌, ap, ap₂, map-append, Text, Tree, Definition, CommentTree, DefinitionTree, PreambleTree, EntryTree, Macros, months, macros_after, macros_at, gathered, EntryTexts, entry_in, keys_of, crossref_text}
+use Rattle.bib_store.proofs.Words.{AreSettled, gathered-append, Bounds, AreAllSettled, AreBounded, item_with}
 use Rattle.bib_spec.specs.Reading.{Item}
-use Rattle.bib_spec.specs.Texts.{Macros, months, macros_after, macros_at, gathered}
-use Rattle.bib_spec.specs.Records.{EntryTexts, entry_in, keys_of, crossref_text}
-use Rattle.bib_definitions.specs.Definitions.{AreSettled}
-use Rattle.bib_definitions.proofs.MacrosAfter.{gathered-append}
-use Rattle.bib_store.specs.declared.bounds.Bounds.{Bounds}
-use Rattle.bib_store.specs.Bounds.{AreAllSettled, AreBounded}
-use Rattle.bib_store.specs.Beside.{item_with}
 
 -- ---- items that are settled
 

@@ -1,24 +1,13 @@
 -- Crossrefs and values that say the same whatever macros stand for.
-use Rattle.std.proofs.Common.{◌≡◌, ℕ, zero, suc, ◌+◌, true, false, List, [], ◌∷◌, ◌++◌, length, take, map, Option, Some, None, ⊎_elim, refl, sym, ◌∙◌, ap, ap₂, subst, arith}
-use Rattle.std.specs.List.{flat_map, slice_get}
-use Rattle.std.proofs.lemmas.Bool.{cases_Bool, both_ways}
+use Rattle.bib_store.proofs.Words.{◌≡◌, ℕ, zero, suc, ◌+◌, true, false, List, [], ◌∷◌, ◌++◌, length, take, map, Option, Some, None, ⊎_elim, refl, sym, ◌∙◌, ap, ap₂, subst, arith, flat_map, cases_Bool, both_ways, none-some, same_Some, name_limit, Text, same, Tree, Part, Braced, Quoted, Digits, Macro}
+use Rattle.bib_store.proofs.Words.{Row, Entry, EntryTree, IsTree, Macros, months, part_text, raw_text, field_text, crossref, crossref_text, entry_in, texts_of, View, view_of, one_value, defined_by, is_entry_tree, OfValue, AreLiteral, IsSettled, crossref_in, OfRows}
+use Rattle.std.specs.List.{slice_get}
 use Rattle.std.proofs.lemmas.List.{take_all}
-use Rattle.std.proofs.lemmas.Option.{none-some, same_Some}
-use Rattle.bib_spec.specs.Bytes.{name_limit}
-use Rattle.bib_spec.specs.Text.{Text, same}
-use Rattle.bib_spec.specs.Tree.{Tree, Part, Braced, Quoted, Digits, Macro, Row, Entry, EntryTree, IsTree}
 use Rattle.bib_spec.specs.Reading.{Item}
-use Rattle.bib_spec.specs.Texts.{Macros, months, parts_of, part_text, raw_text, field_text}
-use Rattle.bib_spec.specs.Records.{crossref, crossref_text, entry_in, texts_of}
+use Rattle.bib_spec.specs.Texts.{parts_of}
 use Rattle.bib_scan.specs.ValueParts.{IsPartsOf}
-use Rattle.bib_scan.specs.View.{View, view_of}
 use Rattle.bib_scan.specs.declared.parts.PartSpan.{PartSpan}
-use Rattle.bib_scan.proofs.TakenApart.{one_value}
-use Rattle.bib_definitions.specs.Definitions.{defined_by}
-use Rattle.bib_store.specs.Meaning.{is_entry_tree}
-use Rattle.bib_value.specs.Raw.{OfValue}
-use Rattle.bib_store.specs.Bounds.{is_literal, AreLiteral, IsSettled}
-use Rattle.bib_store.specs.ItemTexts.{crossref_in, OfRows}
+use Rattle.bib_store.specs.Bounds.{is_literal}
 use Rattle.bib_store.proofs.SaidTexts.{entry_says}
 use Rattle.bib_store.proofs.EntryItems.{entry_tree}
 use Rattle.bib_store.proofs.FirstCrossrefs.{row_is_other, row_is_first}

@@ -1,22 +1,15 @@
 -- How long the texts of an item are, at most.
-use Rattle.std.proofs.Common.{◌≡◌, ℕ, suc, ◌+◌, ◌*◌, ◌<◌, ◌≤◌, true, List, [], ◌∷◌, ◌++◌, length, map, Option, Some, None, unwrap_or, ⊎_elim, refl, sym, ◌∙◌, ap, subst, arith, length-append, All}
-use Rattle.std.specs.List.{flat_map}
-use Rattle.std.proofs.Math.Nat.{le-mul_of_pos_right, mul-le-mul_right, add-mul}
-use Rattle.std.specs.List.{AllByRecursion}
+use Rattle.bib_store.proofs.Words.{◌≡◌, ℕ, suc, ◌+◌, ◌*◌, ◌<◌, ◌≤◌, true, List, [], ◌∷◌, ◌++◌, length, map, Option, Some, None, ⊎_elim, refl, sym, ◌∙◌, ap, subst, arith, length-append, flat_map, mul-le-mul_right, AllByRecursion, cases_Bool, cond-true, cond-false, none-some, All-head, All-tail}
+use Rattle.bib_store.proofs.Words.{name_limit, comma, equals_sign, Text, folded, Tree, Part, Braced, Quoted, Digits, Macro, Value, Row, Entry, CommentTree, DefinitionTree, PreambleTree, EntryTree, IsValue, IsRow, IsTree, value_bytes, row_bytes, assignment_bytes, opening_bytes, after_key_bytes}
+use Rattle.bib_store.proofs.Words.{last_comma_bytes, close_byte, entry_bytes, tree_bytes, item_bytes, Macros, macros_after, macros_at, part_text, raw_text, raw_texts_from, raw_limit, row_start, bytes_before_value, View, view_of, AreAtMost, is_entry_tree, first_too_long, placed_texts, row_texts}
+use Rattle.std.proofs.Common.{unwrap_or, All}
+use Rattle.std.proofs.Math.Nat.{le-mul_of_pos_right, add-mul}
 use Rattle.std.specs.Str.{bytes_eq}
-use Rattle.std.proofs.lemmas.Bool.{cases_Bool, cond-true, cond-false}
-use Rattle.std.proofs.lemmas.Option.{none-some}
-use Rattle.std.proofs.lemmas.List.Elements.{All-head, All-tail}
-use Rattle.bib_spec.specs.Bytes.{name_limit, comma, equals_sign, hash, close_brace, quote}
-use Rattle.bib_spec.specs.Text.{Text, folded}
-use Rattle.bib_spec.specs.Tree.{Tree, Part, Braced, Quoted, Digits, Macro, Link, Value, Row, Entry, CommentTree, DefinitionTree, PreambleTree, EntryTree, IsPart, IsLink, IsValue, IsRow, IsTree, part_bytes, link_bytes, value_bytes, row_bytes, assignment_bytes, opening_bytes, after_key_bytes, last_comma_bytes, close_byte, definition_bytes, preamble_bytes, entry_bytes, tree_bytes}
-use Rattle.bib_spec.specs.Reading.{Item, item_bytes}
-use Rattle.bib_spec.specs.Texts.{Macros, updated, macros_after, macros_at, part_text, raw_text, raw_texts_from, raw_limit, row_start, bytes_before_value}
-use Rattle.bib_scan.specs.View.{View, view_of}
+use Rattle.bib_spec.specs.Bytes.{hash, close_brace, quote}
+use Rattle.bib_spec.specs.Tree.{Link, IsPart, IsLink, part_bytes, link_bytes, definition_bytes, preamble_bytes}
+use Rattle.bib_spec.specs.Reading.{Item}
+use Rattle.bib_spec.specs.Texts.{updated}
 use Rattle.bib_scan.proofs.PartLaws.{name_parts}
-use Rattle.bib_definitions.specs.Definitions.{AreAtMost}
-use Rattle.bib_store.specs.Meaning.{is_entry_tree}
-use Rattle.bib_store.specs.ItemTexts.{first_too_long, placed_texts, row_texts}
 use Rattle.bib_store.proofs.EntryItems.{entry_tree}
 use Rattle.bib_store.proofs.RowTexts.{first_fits}
 use Rattle.bib_store.proofs.Placed.{fit_joined}

@@ -1,15 +1,11 @@
 -- In a file that can be opened, no raw text is too long.
-use Rattle.std.proofs.Common.{◌≡◌, ℕ, zero, suc, ◌+◌, ◌≤◌, Bool, false, nat_lt, List, [], ◌∷◌, ◌++◌, length, map, find, zip, slice_get, Option, Some, None, option_map, bytes_eq, ⊎_elim, refl, sym, ◌∙◌, ap, subst, arith}
-use Rattle.std.specs.List.{AllByRecursion}
-use Rattle.std.proofs.lemmas.Bool.{cases_Bool, cond-true, cond-false}
+use Rattle.bib_store.proofs.Words.{◌≡◌, ℕ, zero, suc, ◌+◌, ◌≤◌, Bool, false, nat_lt, List, [], ◌∷◌, ◌++◌, length, map, Option, Some, None, option_map, ⊎_elim, refl, sym, ◌∙◌, ap, subst, arith, AllByRecursion, cases_Bool, cond-true, cond-false, length-map, none-some, same_Some, Text, folded, Row}
+use Rattle.bib_store.proofs.Words.{Tree, CommentTree, DefinitionTree, PreambleTree, EntryTree, row_bytes, Reading, item_bytes, Macros, months, macros_after, macros_at, macros_in, raw_text, raw_texts_in, raw_limit, row_places, value_places, raw_texts_from, too_long_at}
+use Rattle.std.proofs.Common.{find, zip, slice_get, bytes_eq}
 use Rattle.std.proofs.lemmas.Bool.Decides.{nat_tests}
-use Rattle.std.proofs.lemmas.List.{length-map}
-use Rattle.std.proofs.lemmas.Option.{none-some, same_Some}
-use Rattle.bib_spec.specs.Text.{Text, folded}
-use Rattle.bib_spec.specs.Tree.{Row, Tree, CommentTree, DefinitionTree, PreambleTree, EntryTree, row_bytes}
-use Rattle.bib_spec.specs.Reading.{Item, Reading, item_bytes}
+use Rattle.bib_spec.specs.Reading.{Item}
 use Rattle.bib_value.proofs.MonthLemmas.{months_short}
-use Rattle.bib_spec.specs.Texts.{Macros, months, macros_after, macros_at, macros_in, raw_text, raw_texts_in, raw_limit, row_places, value_places, values_of, raw_texts_from, too_long_at}
+use Rattle.bib_spec.specs.Texts.{values_of}
 
 -- the text is no longer than a raw text may be
 abbrev pub IsShort : Text → Type 0

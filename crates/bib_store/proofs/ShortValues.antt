@@ -1,8 +1,6 @@
 -- What a value of one part says is what that part says.
-use Rattle.std.proofs.Common.{◌≡◌, List, [], ◌∷◌, ◌∙◌, ap, append-nil}
-use Rattle.std.specs.List.{flat_map}
-use Rattle.bib_spec.specs.Tree.{Part, Value}
-use Rattle.bib_spec.specs.Texts.{Macros, part_text, raw_text}
+use Rattle.bib_store.proofs.Words.{◌≡◌, List, [], ◌∷◌, ◌∙◌, ap, flat_map, Part, Value, Macros, part_text, raw_text}
+use Rattle.std.proofs.Common.{append-nil}
 use Rattle.bib_scan.specs.ValueParts.{parts_of}
 
 pub alone_says : (m : Macros) (v : Value) (p : Part) → parts_of v ≡ p ∷ [] → raw_text m v ≡ part_text m p

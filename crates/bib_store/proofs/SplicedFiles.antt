@@ -1,25 +1,10 @@
 -- The file that a change makes: its reading, and what is kept of it.
-use Rattle.std.proofs.Common.{◌≡◌, ℕ, ◌≤◌, Bool, true, false, List, [], ◌++◌, length, take, drop, None, refl, sym, subst, ◌∙◌, ap, ap₂, append_assoc}
-use Rattle.std.proofs.lemmas.List.{map-append, take-map, drop-map}
+use Rattle.bib_store.proofs.Words.{◌≡◌, ℕ, ◌≤◌, Bool, true, false, List, [], ◌++◌, length, take, drop, None, refl, sym, subst, ◌∙◌, ap, ap₂, append_assoc, map-append, take-map, drop-map, All-append, All-take, All-drop, flat_map, name_limit, file_limit, Text, IsClean, Reading, Reads, IsItem}
+use Rattle.bib_store.proofs.Words.{item_bytes, bytes_of, too_long_at, IsOpenable, Piece, Fit, applied, one_reading, Window, Change, Tables, stored, all_stored, kept_bytes, HasItems, AreTables, file_of, IsKept, IsWindow, Serve, front_before, bytes_before, bytes_after, exchanged, joined, OfJoined}
 use Rattle.std.proofs.lemmas.List.Concat.{flat_map-append}
-use Rattle.std.proofs.lemmas.List.Elements.{All-append, All-take, All-drop}
-use Rattle.std.specs.List.{flat_map, All}
-use Rattle.bib_spec.specs.Bytes.{name_limit, file_limit}
-use Rattle.bib_spec.specs.Text.{Text}
-use Rattle.bib_spec.specs.Clean.{IsClean}
-use Rattle.bib_spec.specs.Reading.{Reading, Reads, IsItem, item_bytes, bytes_of}
-use Rattle.bib_spec.specs.Texts.{too_long_at}
-use Rattle.bib_spec.specs.Texts.{IsOpenable}
-use Rattle.bib_spec.specs.Pieces.{Piece, Fit, applied}
-use Rattle.bib_scan.proofs.OneReading.{one_reading}
+use Rattle.std.specs.List.{All}
 use Rattle.bib_items.specs.declared.list.Item.{Item}
-use Rattle.bib_store.specs.declared.window.Window.{Window}
-use Rattle.bib_store.specs.declared.change.Change.{Change}
-use Rattle.bib_store.specs.declared.tables.Tables.{Tables}
-use Rattle.bib_items.specs.Items.{stored, all_stored, kept_bytes}
-use Rattle.bib_store.specs.Beside.{HasItems, AreTables}
-use Rattle.bib_store.specs.Stored.{file_of, IsKept}
-use Rattle.bib_store.specs.Windows.{IsWindow, IsChange, Serve, front_before, front_after, bytes_before, bytes_after, exchanged, joined, OfJoined}
+use Rattle.bib_store.specs.Windows.{IsChange, front_after}
 use Rattle.bib_store.proofs.KeptItems.{bytes-stored, file-stored}
 
 -- its items are kept in the place of the others

@@ -1,34 +1,21 @@
 -- What an item that comes or goes does to the tables.
-use Rattle.std.proofs.Common.{◌≡◌, ℕ, suc, ◌+◌, ◌<◌, ◌≤◌, ◌^◌, cond, Bool, true, false, List, [], ◌∷◌, ◌++◌, length, map, filter, Option, Some, None, insert, remove, slice_get, ◌⊎◌, ⊎_elim, refl, sym, ◌∙◌, ap, subst, arith, append-nil, length-append}
-use Rattle.std.specs.List.{enumerate_from}
-use Rattle.std.proofs.lemmas.List.{length-map}
-use Rattle.bib_spec.specs.Bytes.{equals_sign, name_limit}
-use Rattle.bib_spec.specs.Text.{Text, folded}
-use Rattle.bib_spec.specs.Tree.{Tree, CommentTree, DefinitionTree, PreambleTree, EntryTree, Definition, IsTree, opening_bytes, value_bytes}
+use Rattle.bib_store.proofs.Words.{◌≡◌, ℕ, suc, ◌+◌, ◌<◌, ◌≤◌, ◌^◌, cond, Bool, true, false, List, [], ◌∷◌, ◌++◌, length, map, filter, Option, Some, None, insert, remove, ◌⊎◌, ⊎_elim, refl, sym, ◌∙◌, ap, subst, arith, length-append, enumerate_from, length-map, equals_sign, name_limit, Text, folded}
+use Rattle.bib_store.proofs.Words.{Tree, CommentTree, DefinitionTree, PreambleTree, EntryTree, Definition, IsTree, opening_bytes, value_bytes, Macros, months, raw_text, raw_limit, macros_after, macros_at, gathered, bytes_before_value, EntryTexts, entry_in, keys_of, crossref_text, texts_of, View}
+use Rattle.bib_store.proofs.Words.{field_after, fields_of, view_of, OfValue, IsTableOf, Tables, is_entry_tree, texts_at, is_definition_tree, AreDefinitionsOf, AreSettled, is_preamble_tree, first_too_long, placed_texts, own_text, AreTablesOf, IsStep, IsInsertion, IsRemoval, IsTooLongAt, SayTheSame}
+use Rattle.bib_store.proofs.Words.{OfView, item_with, numbers, macros_in_front, gathered-append, Bounds, IsSettled, IsBounded, AreAllSettled, AreBounded, Admits, true-eq}
+use Rattle.std.proofs.Common.{slice_get, append-nil}
 use Rattle.bib_spec.specs.Reading.{Item}
-use Rattle.bib_spec.specs.Texts.{Macros, months, raw_text, raw_limit, macros_after, macros_at, gathered, bytes_before_value}
-use Rattle.bib_spec.specs.Records.{EntryTexts, entry_in, keys_of, crossref_text, texts_of}
-use Rattle.bib_scan.specs.View.{Field, View, field_after, fields_of, view_of}
+use Rattle.bib_scan.specs.View.{Field}
 use Rattle.bib_scan.specs.declared.view.Kind.{Kind}
 use Rattle.bib_scan.specs.declared.view.Kind.TheVariants as kind
-use Rattle.bib_value.specs.Raw.{OfValue}
 use Rattle.bib_numbers.specs.Numbers.{PartAt, HaveNext}
-use Rattle.bib_entries.specs.EntryTable.{Kept, IsTableOf}
+use Rattle.bib_entries.specs.EntryTable.{Kept}
 use Rattle.bib_numbers.proofs.MovedNumbers.{part_with}
-use Rattle.bib_store.specs.declared.tables.Tables.{Tables}
-use Rattle.bib_store.specs.Meaning.{is_entry_tree}
-use Rattle.bib_definitions.specs.Definitions.{Known, texts_at, is_definition_of, is_definition_tree, AreDefinitionsOf, AreSettled, Defines}
-use Rattle.bib_store.specs.Tables.{is_preamble_tree}
-use Rattle.bib_store.specs.ItemTexts.{first_too_long, placed_texts, own_text}
-use Rattle.bib_store.specs.Beside.{AreTablesOf, IsStep, IsInsertion, IsMovedFor, IsRemoval, IsTooLongAt, SayTheSame, OfView, item_with}
+use Rattle.bib_definitions.specs.Definitions.{Known, is_definition_of, Defines}
+use Rattle.bib_store.specs.TablesOf.{IsMovedFor}
 use Rattle.bib_store.proofs.RowTexts.{cons_parts, first_fits, first_over}
-use Rattle.bib_numbers.specs.Numbers.{numbers}
 use Rattle.bib_numbers.proofs.ItemNumbers.{numbers-parts, numbers-with, parts_at, put_numbers, moved_numbers, taken_numbers, closed_numbers}
-use Rattle.bib_definitions.proofs.MacrosAfter.{macros_in_front, gathered-append}
-use Rattle.bib_store.specs.declared.bounds.Bounds.{Bounds}
-use Rattle.bib_store.specs.Bounds.{IsSettled, IsBounded, AreAllSettled, AreBounded, Admits}
 use Rattle.bib_store.proofs.BoundedItems.{bounded_with, bounded_without, settled_definition, settled_preamble, settled_comment}
-use Rattle.bib_spec.proofs.Names.{true-eq}
 use Rattle.bib_store.proofs.Settled.{settled_texts, same_keys, same_crossrefs}
 use Rattle.bib_store.proofs.Insertions.{map-put, map-taken, map-stands, gathered-with}
 

@@ -1,28 +1,19 @@
 -- The walk over the items of a file.
-use Rattle.std.proofs.Common.{◌≡◌, ℕ, zero, suc, ◌+◌, ◌-◌, ◌<◌, ◌≤◌, ◌^◌, cond, nat_lt, List, [], ◌∷◌, ◌++◌, length, take, drop, map, Option, Some, None, option_map, slice_get, get_or, ◌⊎◌, inl, inr, ⊎_elim, refl, sym, ◌∙◌, ap, subst, arith, append-nil, length-append, length-drop, length-take-le, le_of_suc-le-suc, not-suc-le-zero}
-use Rattle.std.specs.List.{zip, flat_map}
-use Rattle.std.specs.Option.{option_or}
-use Rattle.std.proofs.lemmas.Bool.{cases_Bool, cond-true, cond-false, ltb-true, ltb-false}
-use Rattle.std.proofs.lemmas.Option.{none-some, same_Some, slice_get_within, slice_get_cases, get_or_from_slice_get, slice_get-map}
-use Rattle.std.proofs.lemmas.List.{take_more, take_all, length-map}
+use Rattle.bib_store.proofs.Words.{◌≡◌, ℕ, zero, suc, ◌+◌, ◌-◌, ◌<◌, ◌≤◌, ◌^◌, cond, nat_lt, List, [], ◌∷◌, ◌++◌, length, take, drop, map, Option, Some, None, option_map, get_or, ◌⊎◌, inl, inr, ⊎_elim, refl, sym, ◌∙◌, ap, subst, arith, length-append, le_of_suc-le-suc, not-suc-le-zero, flat_map}
+use Rattle.bib_store.proofs.Words.{option_or, cases_Bool, cond-true, cond-false, none-some, same_Some, slice_get_within, get_or_from_slice_get, slice_get-map, take_more, length-map, name_limit, file_limit, Text, tree_bytes, IsTree, Reading, Reads, bytes_of, item_bytes, Macros, months, macros_at}
+use Rattle.bib_store.proofs.Words.{macros_after, value_places, raw_texts_in, raw_texts_from, too_long_at, start_of, IsItemOf, AreAllOf, ItemFault, TooLong, Tables, item, item_at, stored, without_range, texts_at, first_too_long, placed_texts, AreTablesOf, AreTables, SayTheSame, HasItems, IsStep}
+use Rattle.bib_store.proofs.Words.{IsTooLongAt}
+use Rattle.std.proofs.Common.{slice_get, append-nil, length-drop, length-take-le}
+use Rattle.std.specs.List.{zip}
+use Rattle.std.proofs.lemmas.Bool.{ltb-true, ltb-false}
+use Rattle.std.proofs.lemmas.Option.{slice_get_cases}
+use Rattle.std.proofs.lemmas.List.{take_all}
 use Rattle.std.proofs.lemmas.Grind.{flat_map-append}
 use Rattle.std.proofs.lemmas.List.Folds.{length-flat_map-take}
-use Rattle.bib_spec.specs.Bytes.{name_limit, file_limit}
-use Rattle.bib_spec.specs.Text.{Text}
-use Rattle.bib_spec.specs.Tree.{tree_bytes, IsTree}
 use Rattle.bib_spec.specs.Reading as reading
-use Rattle.bib_spec.specs.Reading.{Reading, Reads, bytes_of, item_bytes}
-use Rattle.bib_spec.specs.Texts.{Macros, months, macros_at, macros_after, value_places, raw_texts_in, raw_texts_from, too_long_at}
-use Rattle.bib_scan.specs.Layout.{start_of}
-use Rattle.bib_scan.specs.Progress.{IsItemOf, AreAllOf}
 use Rattle.bib_items.specs.declared.list.Item.{Item}
-use Rattle.bib_store.specs.declared.item_fault.ItemFault.{ItemFault}
-use Rattle.bib_store.specs.declared.item_fault.ItemFault.TheVariants.{TooLong, Memory, Unsettled}
-use Rattle.bib_store.specs.declared.tables.Tables.{Tables}
-use Rattle.bib_items.specs.Items.{item, item_at, stored, without_range}
-use Rattle.bib_definitions.specs.Definitions.{texts_at}
-use Rattle.bib_store.specs.ItemTexts.{first_too_long, placed_texts, OfTree}
-use Rattle.bib_store.specs.Beside.{AreTablesOf, AreTables, SayTheSame, HasItems, IsStep, IsTooLongAt}
+use Rattle.bib_store.specs.declared.item_fault.ItemFault.TheVariants.{Memory, Unsettled}
+use Rattle.bib_store.specs.ItemTexts.{OfTree}
 use Rattle.bib_store.proofs.OneItemMore.{first-append, first-shift, raw_texts-append, too_long_within}
 
 -- ---- lists

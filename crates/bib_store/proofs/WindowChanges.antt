@@ -1,18 +1,10 @@
 -- What replaces a window of a file.
-use Rattle.std.proofs.Common.{◌≡◌, ℕ, ◌+◌, ◌≤◌, ◌<◌, Bool, true, List, [], ◌++◌, length, take, sym, subst, ◌∙◌, ap, ap₂, arith, length-append}
-use Rattle.std.proofs.lemmas.List.{drop_all, append-nil}
-use Rattle.std.specs.List.{flat_map}
-use Rattle.bib_spec.specs.Bytes.{file_limit}
-use Rattle.bib_spec.specs.Text.{Text}
-use Rattle.bib_spec.specs.Reading.{HasReading}
-use Rattle.bib_spec.specs.Pieces.{Piece, Fit, applied}
+use Rattle.bib_store.proofs.Words.{◌≡◌, ℕ, ◌+◌, ◌≤◌, ◌<◌, Bool, true, List, [], ◌++◌, length, take, sym, subst, ◌∙◌, ap, ap₂, arith, length-append, drop_all, flat_map, file_limit, Text, HasReading, Piece, Fit, applied, Window, all_moved_back, FitAfter, kept_bytes, file_of, IsWindow, Serve}
+use Rattle.bib_store.proofs.Words.{front_before, bytes_before, bytes_within, bytes_after, fit-after}
+use Rattle.std.proofs.lemmas.List.{append-nil}
 use Rattle.bib_items.specs.declared.list.Item.{Item}
-use Rattle.bib_store.specs.declared.window.Window.{Window}
-use Rattle.history_spec.specs.Shifting.{all_moved_back, FitAfter}
-use Rattle.bib_items.specs.Items.{kept_bytes}
-use Rattle.bib_store.specs.Stored.{file_of}
-use Rattle.bib_store.specs.Windows.{IsWindow, IsWhole, Serve, front_before, bytes_before, bytes_within, bytes_after}
-use Rattle.history_spec.proofs.Shifts.{fit-after, applied-after, fit_after_nothing}
+use Rattle.bib_store.specs.Windows.{IsWhole}
+use Rattle.history_spec.proofs.Shifts.{applied-after, fit_after_nothing}
 use Rattle.bib_store.proofs.WindowLaws.{file-around}
 
 -- the window is the file, with nothing before it and nothing after it

@@ -1,14 +1,8 @@
 -- What stands before, in and after a window.
-use Rattle.std.proofs.Common.{◌≡◌, ℕ, ◌+◌, ◌-◌, ◌≤◌, Bool, true, false, List, [], ◌++◌, take, drop, refl, sym, ◌∙◌, ap, arith, append_assoc, take-append-drop}
-use Rattle.std.proofs.lemmas.List.{drop-drop}
+use Rattle.bib_store.proofs.Words.{◌≡◌, ℕ, ◌+◌, ◌-◌, ◌≤◌, Bool, true, false, List, [], ◌++◌, take, drop, refl, sym, ◌∙◌, ap, arith, append_assoc, take-append-drop, drop-drop, flat_map, between, Text, Window, kept_bytes, file_of, IsWindow, front_before, front_within, bytes_before, bytes_within}
+use Rattle.bib_store.proofs.Words.{bytes_after}
 use Rattle.std.proofs.lemmas.List.Concat.{flat_map-append}
-use Rattle.std.specs.List.{flat_map, between}
-use Rattle.bib_spec.specs.Text.{Text}
 use Rattle.bib_items.specs.declared.list.Item.{Item}
-use Rattle.bib_store.specs.declared.window.Window.{Window}
-use Rattle.bib_items.specs.Items.{kept_bytes}
-use Rattle.bib_store.specs.Stored.{file_of}
-use Rattle.bib_store.specs.Windows.{IsWindow, front_before, front_within, bytes_before, bytes_within, bytes_after}
 
 abbrev all_bytes : List Item → Text
 all_bytes items = flat_map kept_bytes items

@@ -9,7 +9,7 @@ use Rattle.bib_spec.specs.Texts.{Macros}
 use Rattle.bib_spec.specs.Records.{entry_in, crossref_text}
 use Rattle.bib_scan.specs.View.{View, view_of}
 use Rattle.bib_definitions.specs.Definitions.{defined_by}
-use Rattle.bib_store.specs.Meaning.{is_entry_tree}
+use Rattle.bib_store.specs.Readings.{is_entry_tree}
 use Rattle.bib_store.specs.declared.bounds.Bounds.{Bounds}
 
 -- the part is not the name of a macro

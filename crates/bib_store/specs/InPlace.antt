@@ -8,10 +8,10 @@ use Rattle.bib_spec.specs.Texts.{months, raw_texts_from}
 use Rattle.bib_scan.specs.View.{key_of}
 use Rattle.bib_store.specs.declared.bounds.Bounds.{Bounds}
 use Rattle.bib_store.specs.declared.tables.Tables.{Tables}
-use Rattle.bib_store.specs.Beside.{AreTablesOf}
+use Rattle.bib_store.specs.TablesOf.{AreTablesOf}
 use Rattle.bib_store.specs.Following.{AreItemsOf}
 use Rattle.bib_store.specs.ItemTexts.{first_too_long}
-use Rattle.bib_store.specs.Meaning.{is_entry_tree}
+use Rattle.bib_store.specs.Readings.{is_entry_tree}
 
 -- both are entries, with the same key
 pub record HaveOneKey (old new : Tree) : Type 0 where

@@ -1,4 +1,4 @@
-pub mod Meaning
+pub mod Readings
 pub mod Tables
 pub mod Citing
 pub mod Gathering
@@ -6,7 +6,7 @@ pub mod Choosing
 pub mod Windows
 pub mod ItemTexts
 pub mod Bounds
-pub mod Beside
+pub mod TablesOf
 pub mod Stored
 pub mod Following
 pub mod Firm

@@ -12,7 +12,7 @@ use Rattle.bib_items.specs.declared.list.Item.{Item}
 use Rattle.bib_items.specs.Items.{all_stored}
 use Rattle.bib_store.specs.declared.change.Change.{Change}
 use Rattle.bib_store.specs.declared.tables.Tables.{Tables}
-use Rattle.bib_store.specs.Beside.{AreTablesOf}
+use Rattle.bib_store.specs.TablesOf.{AreTablesOf}
 use Rattle.bib_store.specs.Following.{MayPassBetween}
 use Rattle.bib_store.specs.ItemTexts.{first_too_long}
 use Rattle.history_spec.specs.Shifting.{all_moved_back, FitAfter}
@@ -32,7 +32,7 @@ pub record IsRunChange (run : List Piece) (front : Text) (items : List Item) (n 
 
 -- The `count` items of the change are in the list before those of its window. The first `lead` items of each are the
 -- lead; the others may come and go in the tables.
-pub record AreBroughtIn (c : Change) (t : Tables) (old now : List Item) (count lead : ℕ) : Type 0 where
+pub record AreInserted (c : Change) (t : Tables) (old now : List Item) (count lead : ℕ) : Type 0 where
   pub put : ArePut c old now count
   pub leads : HasLead c.window count lead
   pub come : MayPassBetween t (c.window.from + lead) (c.window.from + count) now
@@ -65,8 +65,8 @@ abbrev pub StayFollowed : ℕ → List Item → Tables → List Item → Tables 
 StayFollowed most items t new_items new_t = (rest : List Item) → length rest ≤ most → AreFollowed (items ++ rest) t → AreFollowed (new_items ++ rest) new_t
 
 -- the tables follow the items that were inserted for a change before its window, and those of the window except its lead
-abbrev pub FollowBroughtIn : Change → ℕ → List Item → Tables → Tables → Type 0
-FollowBroughtIn c lead old t new_t = (inner : Reading) → Reads c.text inner
+abbrev pub FollowInserted : Change → ℕ → List Item → Tables → Tables → Type 0
+FollowInserted c lead old t new_t = (inner : Reading) → Reads c.text inner
     → StayFollowed (length old - c.window.to) (take c.window.to old) t (take c.window.from old ++ (all_stored inner.items ++ between (c.window.from + lead) c.window.to old)) new_t
 
 -- Once the items that were inserted for a change are gone again, except the lead, any tables that follow what is left follow

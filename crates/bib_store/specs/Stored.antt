@@ -10,8 +10,8 @@ use Rattle.bib_scan.specs.declared.note.Note.{Note}
 use Rattle.bib_items.specs.declared.list.Item.{Item}
 use Rattle.bib_store.specs.declared.tables.Tables.{Tables}
 use Rattle.bib_items.specs.Items.{kept_bytes, all_stored}
-use Rattle.bib_store.specs.Beside.{AreTables}
-use Rattle.bib_store.specs.Meaning.{OfReading}
+use Rattle.bib_store.specs.TablesOf.{AreTables}
+use Rattle.bib_store.specs.Readings.{OfReading}
 
 -- the file that consists of a front and the items after it
 abbrev pub file_of : Text → List Item → Text

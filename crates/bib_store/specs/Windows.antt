@@ -13,7 +13,7 @@ use Rattle.bib_store.specs.declared.change.Change.{Change}
 use Rattle.bib_store.specs.declared.tables.Tables.{Tables}
 use Rattle.bib_items.specs.Items.{kept_bytes, all_stored}
 use Rattle.bib_store.specs.Stored.{file_of, IsKeptAs}
-use Rattle.bib_store.specs.Beside.{HasItems}
+use Rattle.bib_store.specs.TablesOf.{HasItems}
 use Rattle.bib_store.specs.Following.{bodies_between}
 
 -- the window lies in the items, and it begins the file if it has the front

@@ -79,7 +79,7 @@ impl<L: ItemList> Database<L> {
     ghost use Rattle.std.specs.Prelude.{◌≡◌, ◌≤◌, ◌<◌, length, filter, filter_map, is_none, map, All, IfOk, IfErr};
     ghost use Rattle.std.specs.List.{enumerate_from};
     ghost use Rattle.bib_spec.specs.Records.{entries_of, entry_named, with_parents, once, listed, unknown};
-    ghost use Rattle.bib_store.specs.Meaning.{OfReading};
+    ghost use Rattle.bib_store.specs.Readings.{OfReading};
     ghost use Rattle.bib_store.specs.Citing.{AreCounts};
     ghost use Rattle.bib_items.specs.declared.fault.StoreFault.TheVariants.{Memory};
 

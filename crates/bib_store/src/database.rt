@@ -37,7 +37,7 @@ pub struct Database<L: ItemList> {
 impl<L: ItemList> Model for Database<L> {
     ghost use Rattle.bib_spec.specs.Text.{Text as Bytes};
     ghost use Rattle.bib_store.specs.Stored.{file_of, IsKept};
-    ghost use Rattle.bib_store.specs.Beside.{AreNotesOf};
+    ghost use Rattle.bib_store.specs.TablesOf.{AreNotesOf};
 
     ghost Value = { Bytes };
 
@@ -65,7 +65,7 @@ impl<L: ItemList> Database<L> {
     ghost use Rattle.bib_store.specs.Stored.{IsTaken, AreTablesOfFile};
     ghost use Rattle.bib_definitions.specs.Definitions.{definition_count, first_definition};
     ghost use Rattle.bib_definitions.specs.MacrosSeen.{macros_seen};
-    ghost use Rattle.bib_store.specs.Meaning.{OfReading, IsItemNumber, IsItemPlace, IsEntryNumber, IsPreambleNumber, entry_items, entry_numbers, IsOpenFault};
+    ghost use Rattle.bib_store.specs.Readings.{OfReading, IsItemNumber, IsItemGap, IsEntryNumber, IsPreambleNumber, entry_items, entry_numbers, IsOpenFault};
     ghost use Rattle.bib_items.specs.declared.fault.StoreFault.TheVariants.{Memory, NoSuchEntry};
 
     /// Opens the file with these bytes, which it copies. `empty` is a list without items, which keeps the file's items from now
@@ -195,7 +195,7 @@ impl<L: ItemList> Database<L> {
 
     /// The place at which item `n` begins in the file, or at which the file ends, in bytes.
     pub fn item_place(&self, n: usize) -> usize
-        requires { IsItemPlace self.now n }
+        requires { IsItemGap self.now n }
         ensures { OfReading self.now (λ db. result ≡ start_of db n) }
     {
         self.front.as_slice().len() + self.items.start(n)
@@ -218,9 +218,9 @@ impl<L: ItemList> Database<L> {
     /// none of them has a part that one of the two seeks. The item itself may have such a part or not. It takes a few steps
     /// for each page of items that it passes by their marks, and else time in the length of the items that it passes.
     pub fn next_with(&self, n: usize, sought: Sought<'_>, other: Sought<'_>) -> usize
-        requires { IsItemPlace self.now n }
+        requires { IsItemGap self.now n }
         ensures order { n ≤ result }
-        ensures within { IsItemPlace self.now result }
+        ensures within { IsItemGap self.now result }
         ensures sought { OfReading self.now (λ db. have_part (test_of sought.entry) (between n result db.items) ≡ false) }
         ensures other { OfReading self.now (λ db. have_part (test_of other.entry) (between n result db.items) ≡ false) }
     {
@@ -347,7 +347,7 @@ impl<L: ItemList> Database<L> {
 
     /// What macros stand for before item `n`, or at the end of the file.
     pub fn macros_at(&self, n: usize) -> MacrosAt<'_>
-        requires { IsItemPlace self.now n }
+        requires { IsItemGap self.now n }
         ensures { OfReading self.now (λ db. macros_seen result ≡ macros_at months db.items n) }
     {
         self.tables.definitions.at(n)
@@ -355,7 +355,7 @@ impl<L: ItemList> Database<L> {
 
     /// What the name stands for as item `n` sees it, or at the end of the file.
     pub fn macro_text(&self, n: usize, name: &[u8]) -> Result<Option<Text>, StoreFault>
-        requires { IsItemPlace self.now n }
+        requires { IsItemGap self.now n }
         ensures text { IfOk result (λ text. OfReading self.now (λ db. text ≡ seen db n name.now)) }
         ensures short { IfOk result (λ text. IfSome text (λ t. length t ≤ raw_limit)) }
         ensures only { IfErr result (λ fault. fault ≡ Memory) }

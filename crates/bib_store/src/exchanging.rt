@@ -4,7 +4,7 @@ ghost use Rattle.std.specs.Prelude.{◌≡◌, ◌+◌, ◌≤◌, ◌⊎◌, �
 ghost use Rattle.bib_spec.specs.Reading.{Reading, Reads};
 ghost use Rattle.bib_spec.specs.Texts.{too_long_at};
 ghost use Rattle.bib_scan.specs.Layout.{IsLayoutOf};
-ghost use Rattle.bib_store.specs.Beside.{AreTables};
+ghost use Rattle.bib_store.specs.TablesOf.{AreTables};
 ghost use Rattle.bib_store.specs.Following.{MayPassBetween};
 ghost use Rattle.bib_store.specs.Firm.{IsFirm};
 ghost use Rattle.bib_store.specs.Stored.{SayTheSameOf};
@@ -13,7 +13,7 @@ ghost use Rattle.bib_store.specs.Windows.{IsWindow, IsLead, ArePut, OfJoined, ex
 ghost use Rattle.bib_items.specs.declared.fault.StoreFault.TheVariants.{Memory, BadSplice};
 
 use crate::change::Change;
-use crate::following::{are_others, forget, learn};
+use crate::following::{add_to_tables, are_others, remove_from_tables};
 use crate::in_place::{put_behind_first, put_in_place};
 use crate::tables::Tables;
 use crate::window::Window;
@@ -280,10 +280,10 @@ fn follow<L: ItemList>(
     let _ = items.count();
     let first = window.from + lead;
     let first_old = window.from + count;
-    match learn(alloc, tables, items, first, first, first_old) {
+    match add_to_tables(alloc, tables, items, first, first, first_old) {
         Ok(()) => {
             let to = window.to + count;
-            forget(tables, items, first_old, first_old + lead, to);
+            remove_from_tables(tables, items, first_old, first_old + lead, to);
             tables.file_len = change.file_len;
             Ok(())
         }

@@ -18,7 +18,7 @@ impl<L: ItemList> Database<L> {
     ghost use Rattle.bib_scan.specs.View.{view_of};
     ghost use Rattle.bib_spec.specs.Records.{RecordField, entries_of, parent, IsDepth, expanded, missing, fields_at, with_inherited};
     ghost use Rattle.bib_spec.specs.Lineages.{lineage};
-    ghost use Rattle.bib_store.specs.Meaning.{OfReading, IsEntryNumber, entry_items};
+    ghost use Rattle.bib_store.specs.Readings.{OfReading, IsEntryNumber, entry_items};
     ghost use Rattle.bib_store.specs.Gathering.{AreTaken};
     ghost use Rattle.bib_store.specs.Choosing.{chosen, with_chosen};
     ghost use Rattle.bib_items.specs.declared.fault.StoreFault.TheVariants.{Memory};

@@ -3,7 +3,7 @@
 ghost use Rattle.std.specs.Prelude.{◌≡◌, ◌+◌, ◌≤◌, ◌<◌, ◌^◌, ◌⊎◌, ℕ, List, ◌++◌, length, IsTrue, IfErr, OnOk, OnErr};
 ghost use Rattle.bib_spec.specs.Reading.{Item};
 ghost use Rattle.bib_items.specs.declared.fault.StoreFault.TheVariants.{Memory, BadSplice};
-ghost use Rattle.bib_store.specs.Beside.{AreTablesOf};
+ghost use Rattle.bib_store.specs.TablesOf.{AreTablesOf};
 ghost use Rattle.bib_definitions.specs.Definitions.{texts_at};
 ghost use Rattle.bib_store.specs.Firm.{IsFirm};
 ghost use Rattle.bib_store.specs.Following.{bodies_between, AreItemsOf, AreOthersOf, DefineNothing, HaveShortTexts, MayPass};
@@ -15,7 +15,7 @@ use std::alloc::Global;
 
 /// Adds the items of the list from number `from` up to `to` to the tables, before the items that have the numbers from `at`
 /// on there. None of them is a definition. If it is refused, the tables say what they said.
-pub(crate) fn learn<L: ItemList>(
+pub(crate) fn add_to_tables<L: ItemList>(
     alloc: Global,
     tables: &mut Tables,
     items: &L,
@@ -33,7 +33,7 @@ pub(crate) fn learn<L: ItemList>(
     ensures only { IfErr result (λ fault. (fault ≡ BadSplice) ⊎ (fault ≡ Memory)) }
     ensures err { OnErr result ((before new after : List Item) → length before ≡ at → MayPass tables.old (bodies_between from to (L.items items.now)) new → at + (length new + length after) < 2 ^ 64 → AreTablesOf (before ++ after) tables.old → AreTablesOf (before ++ after) tables.new) }
 {
-    'learn: for j in 0..to - from {
+    'add_to_tables: for j in 0..to - from {
         let k = to - 1 - j;
         if let Err(fault) = tables.insert(
             alloc,
@@ -42,7 +42,7 @@ pub(crate) fn learn<L: ItemList>(
             None,
             true,
         ) {
-            forget(tables, items, at, k + 1, to);
+            remove_from_tables(tables, items, at, k + 1, to);
             return Err(fault.of_splice());
         }
     }
@@ -51,14 +51,20 @@ pub(crate) fn learn<L: ItemList>(
 
 /// Removes the items of the list from number `from` up to `to` from the tables, where they have the numbers from `at` on.
 /// They may be definitions if the tables are firm. It asks for no memory.
-pub(crate) fn forget<L: ItemList>(tables: &mut Tables, items: &L, at: usize, from: usize, to: usize)
+pub(crate) fn remove_from_tables<L: ItemList>(
+    tables: &mut Tables,
+    items: &L,
+    at: usize,
+    from: usize,
+    to: usize,
+)
     requires ordered { from ≤ to }
     requires within { to ≤ length (L.items items.now) }
     ensures tables { (before gone after : List Item) → length before ≡ at → MayPass tables.old (bodies_between from to (L.items items.now)) gone → at + (length gone + length after) < 2 ^ 64 → AreTablesOf (before ++ (gone ++ after)) tables.old → AreTablesOf (before ++ after) tables.new }
     ensures len { tables.new.file_len ≡ tables.old.file_len }
     ensures firm { IsFirm tables.old → IsFirm tables.new }
 {
-    'forget: for k in from..to {
+    'remove_from_tables: for k in from..to {
         tables.remove(at, &ItemView::of(items.body(k), b""));
     }
 }

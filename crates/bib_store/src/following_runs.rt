@@ -9,14 +9,14 @@ ghost use Rattle.bib_items.specs.declared.list.Item.{Item};
 ghost use Rattle.bib_items.specs.Items.{all_stored, without_range};
 ghost use Rattle.bib_store.specs.Firm.{IsFirm};
 ghost use Rattle.bib_store.specs.Following.{MayPassBetween};
-ghost use Rattle.bib_store.specs.Runs.{IsRunChange, AreBroughtIn, IsMeasured, StaysMeasured, StayFollowed, FollowBroughtIn, ComesBack, LeadWithin};
+ghost use Rattle.bib_store.specs.Runs.{IsRunChange, AreInserted, IsMeasured, StaysMeasured, StayFollowed, FollowInserted, ComesBack, LeadWithin};
 ghost use Rattle.bib_spec.specs.Pieces.{Fit, applied};
 ghost use Rattle.bib_store.specs.Stored.{file_of, IsKept};
 ghost use Rattle.bib_store.specs.Windows.{IsWindow, HasLead, IsLead, ArePut, exchanged};
 
 use crate::change::{Change, change_near};
 use crate::exchanging::{can_follow, unchanged_first};
-use crate::following::{forget, learn};
+use crate::following::{add_to_tables, remove_from_tables};
 use crate::runs::RunFault;
 use crate::tables::Tables;
 use crate::touching::touched;
@@ -51,7 +51,7 @@ fn run_change<L: ItemList>(
 
 /// What was inserted for a change before the items of its window.
 #[derive(Drop)]
-struct Brought {
+struct Inserted {
     /// How many items were inserted.
     count: usize,
     /// How many of them are the lead: in the tables, these count as the first items of the window.
@@ -61,7 +61,7 @@ struct Brought {
 /// Adds to the tables the `count` items that were inserted for a change, except its lead, which counts as the first of the
 /// window. It returns how many items the lead has. It is refused if the items are many, or if they may not come and go; the
 /// tables then say what they said.
-fn learn_few<L: ItemList>(
+fn add_few<L: ItemList>(
     alloc: Global,
     tables: &mut Tables,
     items: &L,
@@ -73,7 +73,7 @@ fn learn_few<L: ItemList>(
     ensures lead { IfOk result (HasLead change.now.window count) }
     ensures come { IfOk result (λ lead. MayPassBetween tables.old (change.now.window.from + lead) (change.now.window.from + count) (L.items items.now)) }
     ensures gone { IfOk result (λ lead. MayPassBetween tables.old (change.now.window.from + count + lead) (change.now.window.to + count) (L.items items.now)) }
-    ensures followed { IfOk result (λ lead. (old : List Item) → ArePut change.now old (L.items items.now) count → FollowBroughtIn change.now lead old tables.old tables.new) }
+    ensures followed { IfOk result (λ lead. (old : List Item) → ArePut change.now old (L.items items.now) count → FollowInserted change.now lead old tables.old tables.new) }
     ensures comes { IfOk result (λ lead. (old : List Item) → ArePut change.now old (L.items items.now) count → ComesBack change.now lead old) }
     ensures firm { IsFirm tables.old → IsFirm tables.new }
     ensures len { tables.new.file_len ≡ tables.old.file_len }
@@ -87,23 +87,23 @@ fn learn_few<L: ItemList>(
         return Err(RunFault::NotApart);
     }
     let first = window.from + lead;
-    learn(alloc, tables, items, first, first, window.from + count)?;
+    add_to_tables(alloc, tables, items, first, first, window.from + count)?;
     Ok(lead)
 }
 
 /// Inserts the items of a change before those of its window, in the list and in the tables. It is refused if these are
 /// many, if one has a text that is too long or may not come, or if the file would be too long; nothing has changed then.
-fn bring_in<L: ItemList>(
+fn insert_run<L: ItemList>(
     alloc: Global,
     items: &mut L,
     tables: &mut Tables,
     change: &Change,
-) -> Result<Brought, RunFault>
+) -> Result<Inserted, RunFault>
     requires window { IsWindow (L.items items.old) change.now.window }
     requires layout { IsLayoutOf change.now.text change.now.layout }
-    ensures brought { IfOk result (λ b. AreBroughtIn change.now tables.old (L.items items.old) (L.items items.new) b.count b.lead) }
+    ensures inserted { IfOk result (λ b. AreInserted change.now tables.old (L.items items.old) (L.items items.new) b.count b.lead) }
     ensures measured { StaysMeasured (L.items items.old) tables.old (L.items items.new) tables.new }
-    ensures followed { IfOk result (λ b. FollowBroughtIn change.now b.lead (L.items items.old) tables.old tables.new) }
+    ensures followed { IfOk result (λ b. FollowInserted change.now b.lead (L.items items.old) tables.old tables.new) }
     ensures comes { IfOk result (λ b. ComesBack change.now b.lead (L.items items.old)) }
     ensures firm { IsFirm tables.old → IsFirm tables.new }
     ensures back { OnErr result (StayFollowed (length (L.items items.old) - change.now.window.to) (take change.now.window.to (L.items items.old)) tables.old (take change.now.window.to (L.items items.old)) tables.new) }
@@ -119,10 +119,10 @@ fn bring_in<L: ItemList>(
     let old_count = items.count();
     items.insert_all(from, text, &change.layout)?;
     let count = items.count() - old_count;
-    match learn_few(alloc, tables, &*items, change, count) {
+    match add_few(alloc, tables, &*items, change, count) {
         Ok(lead) => {
             tables.file_len = file_len;
-            Ok(Brought { count, lead })
+            Ok(Inserted { count, lead })
         }
         Err(fault) => {
             items.remove_range(from, from + count);
@@ -134,7 +134,7 @@ fn bring_in<L: ItemList>(
 /// Removes the items from number `from` up to `to` from the list. The first `lead` of them are not in the tables. The
 /// others may come and go, and are removed from the tables too, where they have the numbers from `at` on. It asks for no
 /// memory.
-fn take_out<L: ItemList>(
+fn remove_run<L: ItemList>(
     items: &mut L,
     tables: &mut Tables,
     at: usize,
@@ -155,7 +155,7 @@ fn take_out<L: ItemList>(
     // for the proof: the count fits a usize
     let _ = items.count();
     let len = items.start(to) - items.start(from);
-    forget(tables, &*items, at, from + lead, to);
+    remove_from_tables(tables, &*items, at, from + lead, to);
     items.remove_range(from, to);
     tables.file_len -= len;
 }
@@ -183,12 +183,12 @@ fn replace_front<L: ItemList>(
     ensures err { OnErr result ((front.new ≡ front.old) × (L.items items.new ≡ L.items items.old)) }
 {
     let new_front = change.layout.front(change.text.as_slice()).to_vec(alloc)?;
-    let brought = bring_in(alloc, items, tables, change)?;
+    let inserted = insert_run(alloc, items, tables, change)?;
     // for the proof: the count fits a usize
     let _ = items.count();
-    let first_old = change.window.from + brought.count;
-    let end = change.window.to + brought.count;
-    take_out(items, tables, first_old, first_old, brought.lead, end);
+    let first_old = change.window.from + inserted.count;
+    let end = change.window.to + inserted.count;
+    remove_run(items, tables, first_old, first_old, inserted.lead, end);
     tables.file_len = change.file_len;
     *front = Text::from_vec(new_front);
     Ok(())
@@ -233,30 +233,30 @@ fn follow_runs<L: ItemList>(
     let from = change.window.from;
     let touched = change.window.to - from;
     let old_count = items.count();
-    let brought = bring_in(alloc, items, tables, &change)?;
+    let inserted = insert_run(alloc, items, tables, &change)?;
     // for the proof: the count fits a usize
     let _ = items.count();
     match follow_runs(alloc, front, items, tables, from, starts, earlier) {
         Ok(()) => {
             let first_old = items.count() - (old_count - from);
-            take_out(
+            remove_run(
                 items,
                 tables,
                 first_old,
                 first_old,
-                brought.lead,
+                inserted.lead,
                 first_old + touched,
             );
             Ok(())
         }
         Err(fault) => {
-            take_out(
+            remove_run(
                 items,
                 tables,
-                from + brought.lead,
+                from + inserted.lead,
                 from,
-                brought.lead,
-                from + brought.count,
+                inserted.lead,
+                from + inserted.count,
             );
             Err(fault)
         }

@@ -8,12 +8,12 @@ ghost use Rattle.bib_spec.specs.Records.{entry_in, crossref_text};
 ghost use Rattle.bib_scan.specs.Layout.{IsLayoutOf};
 ghost use Rattle.bib_scan.specs.View.{view_of};
 ghost use Rattle.bib_definitions.specs.Definitions.{texts_at};
-ghost use Rattle.bib_store.specs.Beside.{AreTables, TakesPlace};
+ghost use Rattle.bib_store.specs.TablesOf.{AreTables, TakesPlace};
 ghost use Rattle.bib_store.specs.Bounds.{IsSettledEntry};
 ghost use Rattle.bib_store.specs.Following.{bodies_between};
 ghost use Rattle.bib_store.specs.InPlace.{HaveOneKey, TakePlaces, with_bounds};
 ghost use Rattle.bib_store.specs.ItemTexts.{first_too_long, placed_texts};
-ghost use Rattle.bib_store.specs.Meaning.{is_entry_tree};
+ghost use Rattle.bib_store.specs.Readings.{is_entry_tree};
 ghost use Rattle.bib_store.specs.Stored.{SayTheSameOf};
 ghost use Rattle.bib_store.specs.Windows.{IsWindow, ArePut, OfJoined};
 ghost use Rattle.bib_items.specs.declared.list.Item.{Item as StoredItem};
@@ -22,7 +22,7 @@ ghost use Rattle.bib_spec.specs.Texts.{too_long_at};
 use crate::bounds::Bounds;
 use crate::change::Change;
 use crate::crossrefs::{CrossrefText, crossref_within};
-use crate::following::{forget, learn};
+use crate::following::{add_to_tables, remove_from_tables};
 use crate::item_fault::ItemFault;
 use crate::tables::Tables;
 use bib_definitions::Definitions;
@@ -257,7 +257,7 @@ pub(crate) fn put_behind_first<L: ItemList>(
     }
     // for the proof: the count fits a usize
     let _ = items.count();
-    match learn(alloc, tables, items, from, from, from + 1) {
+    match add_to_tables(alloc, tables, items, from, from, from + 1) {
         Ok(()) => {}
         Err(_) => return false,
     }
@@ -268,11 +268,11 @@ pub(crate) fn put_behind_first<L: ItemList>(
         at: from + 2,
     };
     if put_each(alloc, tables, items, change, places) && tables.is_firm() {
-        forget(tables, items, from + 1, from + count, from + count + 1);
+        remove_from_tables(tables, items, from + 1, from + count, from + count + 1);
         tables.file_len = change.file_len;
         return true;
     }
     tables.bounds = bounds;
-    forget(tables, items, from, from, from + 1);
+    remove_from_tables(tables, items, from, from, from + 1);
     false
 }

@@ -3,7 +3,7 @@
 ghost use Rattle.std.specs.Prelude.{◌≡◌, ◌≤◌, [], length, IfOk, IfErr};
 ghost use Rattle.bib_spec.specs.Bytes.{file_limit};
 ghost use Rattle.bib_scan.specs.Layout.{IsLayoutOf};
-ghost use Rattle.bib_store.specs.Meaning.{OfReading, IsOpenFault};
+ghost use Rattle.bib_store.specs.Readings.{OfReading, IsOpenFault};
 ghost use Rattle.bib_store.specs.Stored.{IsTaken};
 ghost use Rattle.bib_items.specs.Items.{all_stored};
 ghost use Rattle.bib_items.specs.declared.fault.StoreFault.TheVariants.{Memory};

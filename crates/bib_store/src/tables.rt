@@ -52,8 +52,8 @@ impl Tables {
     ghost use Rattle.bib_store.specs.Bounds.{Admits};
     ghost use Rattle.bib_store.specs.Firm.{AreFirm, IsFirm};
     ghost use Rattle.bib_store.specs.ItemTexts.{OfTree, own_text, first_too_long, placed_texts};
-    ghost use Rattle.bib_store.specs.Beside.{AreTablesOf, AreTables, SayTheSame, HasItems, IsStep, IsInsertion, IsRemoval, IsTooLongAt, IsNotedAs, IsMovedFor, OfView, OfSeen};
-    ghost use Rattle.bib_store.specs.Meaning.{IsOpenFault};
+    ghost use Rattle.bib_store.specs.TablesOf.{AreTablesOf, AreTables, SayTheSame, HasItems, IsStep, IsInsertion, IsRemoval, IsTooLongAt, IsNotedAs, IsMovedFor, OfView, OfSeen};
+    ghost use Rattle.bib_store.specs.Readings.{IsOpenFault};
     ghost use Rattle.bib_store.specs.Stored.{AreTablesOfFile};
     ghost use Rattle.bib_scan.specs.Layout.{IsLayoutOf};
     ghost use Rattle.bib_scan.specs.Note.{IsNoteOf};

@@ -1,6 +1,7 @@
 -- What stands at a number of a list, and what from there on.
-use Rattle.std.proofs.Common.{◌≡◌, ℕ, zero, suc, ◌+◌, ◌≤◌, ◌<◌, List, [], ◌∷◌, ◌++◌, Some, slice_get, take, drop, length, refl, sym, ◌∙◌, ap, arith, length-take, not-suc-le-zero, le_of_suc-le-suc}
-use Rattle.std.proofs.lemmas.List.{drop_more, take-take, take_at, take_all}
+use Rattle.bib_tokens.proofs.Words.{◌≡◌, ℕ, zero, suc, ◌+◌, ◌≤◌, ◌<◌, List, [], ◌∷◌, ◌++◌, Some, slice_get, take, drop, length, refl, sym, ◌∙◌, ap, arith, not-suc-le-zero, le_of_suc-le-suc, take_at, take_all}
+use Rattle.std.proofs.Common.{length-take}
+use Rattle.std.proofs.lemmas.List.{drop_more, take-take}
 use Rattle.std.proofs.lemmas.Option.{slice_get_within, get_or_from_slice_get}
 
 pub slice_get-within : {X : Type 0} (xs : List X) (n : ℕ) → n < length xs → (x : X) × (slice_get xs n ≡ Some x)

@@ -1,10 +1,6 @@
 -- The first item that passes a test, tried item by item, and that some do exactly where there is one.
-use Rattle.std.proofs.Common.{◌≡◌, ℕ, zero, suc, ◌<◌, Bool, true, false, ◌||◌, List, [], ◌∷◌, Option, Some, None, is_some, option_map, slice_get, length, take, count_by, ⊎_elim, refl, sym, ◌∙◌, ap, arith, le_of_suc-le-suc, not-suc-le-zero}
-use Rattle.std.specs.List.{list_any}
-use Rattle.std.proofs.lemmas.Bool.{cases_Bool, cond-true, cond-false, or_parts}
-use Rattle.std.proofs.lemmas.Option.{none-some}
-use Rattle.bib_spec.specs.Tree.{Tree}
-use Rattle.bib_spec.specs.Reading.{Item}
+use Rattle.bib_tokens.proofs.Words.{◌≡◌, ℕ, zero, suc, ◌<◌, Bool, true, false, ◌||◌, List, [], ◌∷◌, Some, option_map, slice_get, length, take, ⊎_elim, refl, sym, ◌∙◌, ap, arith, le_of_suc-le-suc, not-suc-le-zero, list_any, cases_Bool, cond-true, cond-false, or_parts, none-some, Tree, Item}
+use Rattle.std.proofs.Common.{Option, None, is_some, count_by}
 use Rattle.bib_spec.proofs.Counts.{count-yes, count-no}
 use Rattle.bib_spec.proofs.Places.{suc_some}
 use Rattle.bib_tokens.specs.FirstItem.{first_item}

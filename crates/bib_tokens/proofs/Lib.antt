@@ -1,3 +1,4 @@
+pub mod Words
 pub mod Elements
 pub mod FirstFound
 pub mod PlacedValues

@@ -1,21 +1,10 @@
 -- Whether a part that is watched for was met on the way.
-use Rattle.std.proofs.Common.{◌≡◌, ℕ, zero, suc, ◌+◌, ◌<◌, ◌≤◌, Bool, true, false, ◌||◌, List, [], ◌∷◌, ◌++◌, Some, slice_get, length, map, take, drop, refl, sym, ◌∙◌, ap, ap₂, subst, add-one, All, not-suc-le-zero, le_of_suc-le-suc}
-use Rattle.std.specs.List.{list_any}
-use Rattle.std.proofs.Math.Bool.{or_assoc, or-false}
-use Rattle.std.proofs.lemmas.List.{drop_all}
-use Rattle.std.proofs.lemmas.List.Elements.{All-head, All-tail}
-use Rattle.std.proofs.lemmas.Option.{none-some, same_Some}
-use Rattle.bib_spec.specs.Bytes.{name_limit}
-use Rattle.bib_spec.specs.Text.{Text}
-use Rattle.bib_spec.specs.Tree.{Part, Value, Row, Tree, CommentTree, DefinitionTree, PreambleTree, EntryTree, IsTree, IsRow, row_bytes, opening_bytes}
+use Rattle.bib_tokens.proofs.Words.{◌≡◌, ℕ, zero, suc, ◌+◌, ◌<◌, ◌≤◌, Bool, true, false, ◌||◌, List, [], ◌∷◌, ◌++◌, Some, slice_get, length, map, take, drop, refl, sym, ◌∙◌, ap, ap₂, subst, All, not-suc-le-zero, le_of_suc-le-suc, list_any, or-false, drop_all, All-head, All-tail, none-some}
+use Rattle.bib_tokens.proofs.Words.{same_Some, name_limit, Text, Part, Value, Row, Tree, CommentTree, DefinitionTree, PreambleTree, EntryTree, IsTree, IsRow, row_bytes, opening_bytes, IsItem, Item, Reading, Reads, item_in, any_part, have_part, View, Field, view_of, fields_after, fields_of, OfValue}
+use Rattle.bib_tokens.proofs.Words.{IsMetIn, list_any-append}
+use Rattle.std.proofs.Common.{add-one}
+use Rattle.std.proofs.Math.Bool.{or_assoc}
 use Rattle.bib_spec.specs.Texts.{parts_of}
-use Rattle.bib_spec.specs.Reading.{IsItem, Item, Reading, Reads}
-use Rattle.bib_store.proofs.KeptItems.{item_in}
-use Rattle.part_spec.specs.Parts.{any_part, have_part}
-use Rattle.bib_scan.specs.View.{View, Field, view_of, fields_after, fields_of}
-use Rattle.bib_value.specs.Raw.{OfValue}
-use Rattle.bib_tokens.specs.PlacedParts.{IsMetIn}
-use Rattle.std.proofs.lemmas.List.Folds.{list_any-append}
 use Rattle.bib_tokens.proofs.Elements.{slice_get-within, drop-next}
 
 take-next : {X : Type 0} (xs : List X) (n : ℕ) (x : X) → slice_get xs n ≡ Some x → take (suc n) xs ≡ take n xs ++ x ∷ []

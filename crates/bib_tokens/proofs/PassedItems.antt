@@ -1,18 +1,10 @@
 -- Items that a search passes over, since none of them has a part that is sought.
-use Rattle.std.proofs.Common.{◌≡◌, ℕ, ◌+◌, ◌-◌, ◌≤◌, nat_lt, Bool, false, ◌||◌, List, [], ◌∷◌, ◌++◌, length, take, drop, refl, sym, ◌∙◌, ap, arith, length-append}
-use Rattle.std.specs.List.{flat_map, between}
-use Rattle.std.proofs.Math.Bool.{or-false}
+use Rattle.bib_tokens.proofs.Words.{◌≡◌, ℕ, ◌+◌, ◌-◌, ◌≤◌, nat_lt, Bool, false, ◌||◌, List, [], ◌∷◌, ◌++◌, length, take, drop, refl, sym, ◌∙◌, ap, arith, flat_map, or-false, or_parts, ltb-false, flat_map-append, take-append-drop, list_any-append, Text, Part, Tree, Item, Reading, item_bytes}
+use Rattle.bib_tokens.proofs.Words.{any_part, have_part, start_of, tree_placed, items_placed, tokens_of}
+use Rattle.std.proofs.Common.{length-append}
+use Rattle.std.specs.List.{between}
 use Rattle.std.proofs.Math.Seq.{take-add}
-use Rattle.std.proofs.lemmas.Bool.{or_parts, ltb-false}
-use Rattle.std.proofs.lemmas.Grind.{flat_map-append}
-use Rattle.std.proofs.lemmas.List.{drop-drop, take-append-drop}
-use Rattle.std.proofs.lemmas.List.Folds.{list_any-append}
-use Rattle.bib_spec.specs.Text.{Text}
-use Rattle.bib_spec.specs.Tree.{Part, Tree}
-use Rattle.bib_spec.specs.Reading.{Item, Reading, item_bytes}
-use Rattle.part_spec.specs.Parts.{any_part, have_part}
-use Rattle.bib_scan.specs.Layout.{start_of}
-use Rattle.bib_tokens.specs.PlacedParts.{tree_placed, items_placed, tokens_of}
+use Rattle.std.proofs.lemmas.List.{drop-drop}
 use Rattle.bib_tokens.proofs.PlacedFields.{tokens-append, tree-has}
 use Rattle.bib_tokens.proofs.PlacedItems.{AreTokensTo}
 use Rattle.bib_tokens.proofs.MetParts.{IsMetFrom}

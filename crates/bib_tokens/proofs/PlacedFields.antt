@@ -1,18 +1,14 @@
 -- The parts of an item's fields with their places.
-use Rattle.std.proofs.Common.{◌≡◌, ℕ, suc, ◌+◌, ◌<◌, ◌^◌, nat_lt, Bool, true, ◌||◌, List, [], ◌∷◌, ◌++◌, length, map, ⊎_elim, refl, sym, ◌∙◌, ap, ap₂, subst, arith, append_assoc, append-nil, length-append, All}
-use Rattle.std.specs.List.{flat_map, list_any}
-use Rattle.std.proofs.Math.Bool.{or-false}
-use Rattle.std.proofs.lemmas.Bool.{cases_Bool, ltb-false}
-use Rattle.std.proofs.lemmas.List.Elements.{All-head, All-tail}
-use Rattle.bib_spec.specs.Bytes.{name_limit, comma, equals_sign}
-use Rattle.bib_spec.specs.Text.{Text}
-use Rattle.bib_spec.specs.Tree.{Part, Link, Value, Assignment, Row, Tree, CommentTree, DefinitionTree, PreambleTree, EntryTree, IsTree, IsRow, IsValue, link_bytes, part_bytes, value_bytes, row_bytes, opening_bytes, close_byte, last_comma_bytes, tree_bytes}
+use Rattle.bib_tokens.proofs.Words.{◌≡◌, ℕ, suc, ◌+◌, ◌<◌, nat_lt, Bool, true, ◌||◌, List, [], ◌∷◌, ◌++◌, length, map, ⊎_elim, refl, sym, ◌∙◌, ap, ap₂, subst, arith, append_assoc, append-nil, All, flat_map, list_any, or-false, cases_Bool, ltb-false, All-head, All-tail, name_limit, Text, Part, Link}
+use Rattle.bib_tokens.proofs.Words.{Value, Row, Tree, CommentTree, DefinitionTree, PreambleTree, EntryTree, IsTree, IsRow, link_bytes, part_bytes, value_bytes, row_bytes, opening_bytes, tree_bytes, any_part, Field, fields_after, fields_of, links_placed, value_placed, tree_placed, tokens_of}
+use Rattle.bib_tokens.proofs.Words.{token_at, ArePlacedFields, AreFieldTokens, list_any-append}
+use Rattle.std.proofs.Common.{◌^◌, length-append}
+use Rattle.bib_spec.specs.Bytes.{comma, equals_sign}
+use Rattle.bib_spec.specs.Tree.{Assignment, IsValue, close_byte, last_comma_bytes}
 use Rattle.bib_spec.specs.Texts.{parts_of, row_start, bytes_before_value}
-use Rattle.part_spec.specs.Parts.{any_part}
 use Rattle.edit_spec.proofs.TreeChunks.{row-parts}
-use Rattle.bib_scan.specs.View.{Field, field_after, fields_after, fields_of}
-use Rattle.bib_tokens.specs.PlacedParts.{links_placed, value_placed, rows_placed, tree_placed, tokens_of, token_at, ArePlacedFields, AreFieldTokens}
-use Rattle.std.proofs.lemmas.List.Folds.{list_any-append}
+use Rattle.bib_scan.specs.View.{field_after}
+use Rattle.bib_tokens.specs.PlacedParts.{rows_placed}
 use Rattle.bib_tokens.proofs.PlacedValues.{tokens-met, tokens-unmet}
 
 value_after : (b c n x y : Text) → (((b ++ c) ++ n) ++ x) ++ y ≡ b ++ (c ++ (n ++ (x ++ y)))

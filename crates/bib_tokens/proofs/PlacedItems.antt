@@ -1,21 +1,11 @@
 -- The parts of the items of a file that opens, with their places.
-use Rattle.std.proofs.Common.{◌≡◌, ℕ, ◌+◌, ◌<◌, ◌≤◌, nat_lt, ◌==◌, ⊎_elim, not, Bool, List, [], ◌++◌, Some, slice_get, length, take, drop, refl, sym, ◌∙◌, ap, subst, arith, append_assoc, append-nil, length-append}
-use Rattle.std.specs.List.{flat_map}
-use Rattle.std.proofs.lemmas.Bool.{cases_Bool, false_from_ne_true, eqb-true, eq-eqb, ltb-true, ltb-false}
-use Rattle.std.proofs.lemmas.List.{drop_all, take-append-drop}
-use Rattle.std.proofs.lemmas.Grind.{flat_map-append}
-use Rattle.bib_spec.specs.Bytes.{name_limit}
-use Rattle.bib_spec.specs.Text.{Text}
-use Rattle.bib_spec.specs.Tree.{Part, tree_bytes}
-use Rattle.bib_store.proofs.KeptItems.{item_in}
-use Rattle.bib_spec.specs.Reading.{IsItem, Item, Reading, item_bytes, Reads}
+use Rattle.bib_tokens.proofs.Words.{◌≡◌, ℕ, ◌+◌, ◌<◌, ◌≤◌, nat_lt, ◌==◌, ⊎_elim, not, Bool, List, [], ◌++◌, Some, slice_get, length, take, drop, refl, sym, ◌∙◌, ap, subst, arith, append_assoc, append-nil, flat_map, cases_Bool, ltb-false, drop_all, take-append-drop, flat_map-append, name_limit, Text}
+use Rattle.bib_tokens.proofs.Words.{Part, tree_bytes, item_in, IsItem, Item, Reading, item_bytes, Reads, any_part, View, Field, view_of, start_of, OfReading, tree_placed, items_placed, tokens_of, ArePlacedFields, AreFieldTokens}
+use Rattle.std.proofs.Common.{length-append}
+use Rattle.std.proofs.lemmas.Bool.{false_from_ne_true, eqb-true, eq-eqb, ltb-true}
 use Rattle.bib_spec.specs.Texts.{IsOpenable}
-use Rattle.part_spec.specs.Parts.{any_part}
-use Rattle.bib_scan.specs.View.{View, Field, view_of}
-use Rattle.bib_scan.specs.Layout.{start_of}
 use Rattle.bib_scan.proofs.ReadingLaws.{start_more}
-use Rattle.bib_store.specs.Meaning.{OfReading, IsItemNumber}
-use Rattle.bib_tokens.specs.PlacedParts.{tree_placed, items_placed, tokens_of, ArePlacedFields, AreFieldTokens}
+use Rattle.bib_store.specs.Readings.{IsItemNumber}
 use Rattle.bib_tokens.proofs.PlacedFields.{tokens-append, fields-tokens, fields-within, tree-has}
 use Rattle.bib_tokens.proofs.Elements.{slice_get-within, drop-next}
 

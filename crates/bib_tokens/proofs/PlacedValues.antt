@@ -1,18 +1,13 @@
 -- The parts of a value with their places, taken one by one.
-use Rattle.std.proofs.Common.{◌≡◌, ℕ, zero, suc, ◌+◌, ◌≤◌, Bool, true, false, cond, get_or, List, [], ◌∷◌, ◌++◌, Some, option_map, slice_get, length, map, take, drop, refl, sym, ◌∙◌, ap, ap₂, subst, arith, append_assoc, append-nil, length-append}
-use Rattle.std.specs.List.{flat_map}
-use Rattle.std.proofs.lemmas.Bool.{cond-true, cond-false}
-use Rattle.std.proofs.lemmas.List.{drop_all, drop_at, take_at}
-use Rattle.std.proofs.lemmas.Option.{none-some, same_Some}
+use Rattle.bib_tokens.proofs.Words.{◌≡◌, ℕ, zero, suc, ◌+◌, ◌≤◌, Bool, true, false, List, [], ◌∷◌, ◌++◌, Some, option_map, slice_get, length, map, take, drop, refl, sym, ◌∙◌, ap, ap₂, subst, arith, append_assoc, append-nil, flat_map, cond-true, cond-false, drop_all, take_at, none-some, same_Some}
+use Rattle.bib_tokens.proofs.Words.{Text, Part, Link, Value, part_bytes, link_bytes, value_bytes, OfValue, links_placed, value_placed, token_at, tokens_of}
+use Rattle.std.proofs.Common.{cond, get_or, length-append}
+use Rattle.std.proofs.lemmas.List.{drop_at}
 use Rattle.bib_spec.specs.Bytes.{hash}
-use Rattle.bib_spec.specs.Text.{Text}
-use Rattle.bib_spec.specs.Tree.{Part, Link, Value, part_bytes, link_bytes, value_bytes}
 use Rattle.bib_scan.specs.ValueParts.{link_part, parts_of, spans_of, spans_after, span_start, IsPartsOf}
 use Rattle.bib_scan.specs.declared.parts.PartSpan.{PartSpan}
 use Rattle.bib_scan.proofs.TakenApart.{one_value}
-use Rattle.bib_value.specs.Raw.{OfValue}
 use Rattle.bib_tokens.proofs.Elements.{drop-next}
-use Rattle.bib_tokens.specs.PlacedParts.{links_placed, value_placed, token_at, tokens_of}
 
 -- ---- places
 

@@ -11,7 +11,7 @@ ghost use Rattle.bib_scan.specs.PartView.{part_view};
 ghost use Rattle.bib_scan.specs.ValueParts.{parts_of, IsPartsOf};
 ghost use Rattle.bib_scan.specs.Layout.{start_of};
 ghost use Rattle.bib_value.specs.Raw.{OfValue};
-ghost use Rattle.bib_store.specs.Meaning.{OfReading, IsItemNumber, IsItemPlace};
+ghost use Rattle.bib_store.specs.Readings.{OfReading, IsItemNumber, IsItemGap};
 ghost use Rattle.bib_tokens.specs.FirstItem.{first_item};
 ghost use Rattle.bib_tokens.specs.PlacedParts.{value_placed, items_placed, token_at, tokens_of, token_seen, tokens_seen, ArePlacedFields, AreFieldTokens, IsMetIn};
 ghost use Rattle.bib_items.specs.Seeking.{test_of};
@@ -150,7 +150,7 @@ fn push_in_fields<'a>(
 /// The place of item `n`, or of the file's end, if item `near` begins at the place `at`. It is known at once if both are the
 /// same item.
 fn place_of<L: ItemList>(db: &Database<L>, n: usize, near: usize, at: usize) -> usize
-    requires within { IsItemPlace db.now n }
+    requires within { IsItemGap db.now n }
     requires near { OfReading db.now (λ r. at ≡ start_of r near) }
     ensures { OfReading db.now (λ r. result ≡ start_of r n) }
 {
@@ -169,7 +169,7 @@ pub fn push_from<'a, L: ItemList>(
     sought: Sought<'_>,
     watched: Sought<'_>,
 ) -> Result<bool, AllocError>
-    requires { IsItemPlace db.now n }
+    requires { IsItemGap db.now n }
     ensures tokens { OnOk result (OfReading db.now (λ r. tokens_seen tokens.new.items ≡ tokens_seen tokens.old.items ++ tokens_of (test_of sought.entry) (items_placed (start_of r n) (drop n r.items)))) }
     ensures met { IfOk result (λ met. OfReading db.now (λ r. met ≡ have_part (test_of watched.entry) (drop n r.items))) }
     ensures front { take (length tokens.old.items) tokens.new.items ≡ tokens.old.items }
@@ -226,7 +226,7 @@ pub fn is_met_before<L: ItemList>(
     n: usize,
     watched: Sought<'_>,
 ) -> Result<bool, AllocError>
-    requires { IsItemPlace db.now n }
+    requires { IsItemGap db.now n }
     ensures { IfOk result (λ met. OfReading db.now (λ r. met ≡ have_part (test_of watched.entry) (take n r.items))) }
 {
     let mut k = db.next_with(0, watched, Sought::Nothing);

@@ -1,18 +1,9 @@
 -- The edits of the examples are accepted: no reason refuses them.
-use Rattle.std.proofs.Common.{◌≡◌, ℕ, zero, suc, ◌≤◌, List, [], ◌∷◌, Some, All, codes, ⊎_elim, refl, sym, arith, not-suc-le-zero, le_of_suc-le-suc}
-use Rattle.std.specs.List.{AllPass}
-use Rattle.std.specs.Char.{is_ascii_digit}
-use Rattle.std.proofs.lemmas.Bool.{false≢true}
-use Rattle.std.proofs.lemmas.Option.{none-some}
-use Rattle.bib_spec.specs.Bytes.{name_limit}
-use Rattle.bib_spec.specs.Text.{is_space, is_name_byte, is_new_key_byte, is_name_within, is_new_key, opened_before, closed_before}
-use Rattle.bib_spec.specs.Clean.{begins_command, IsClean, IsCleanTrail}
-use Rattle.bib_spec.specs.Tree.{Digits, is_comment, IsValue}
-use Rattle.bib_spec.specs.Reading.{Item}
-use Rattle.bib_spec.specs.Texts.{months, field_text}
-use Rattle.edit_spec.specs.Edits.{SetField, DropField, AddEntry, RemoveEntry, MoveEntry, RenameKey, RenameMacro, InlineMacro, IntroduceMacro, RegenerateKeys, AddMany, BadKey, BadName, BadValue, BadPosition, NotFound, Ambiguous, KeyInUse, NameInUse, Referred, WouldMerge, FileTooLong, TextTooLong, in_braces, remove_entry, inline_macro, IsAccepted}
-use Rattle.bib_spec.specs.Records.{entries_of, parent}
-use Rattle.edit_spec.specs.Examples.{only, one_field, waiting, z, two_lines, named_by_macro, overridden_month, quoting, same_text_twice, swapped, family, author_year}
+use Rattle.edit_spec.proofs.Words.{◌≡◌, ℕ, zero, suc, ◌≤◌, List, ◌∷◌, Some, All, codes, ⊎_elim, refl, sym, arith, not-suc-le-zero, le_of_suc-le-suc, AllPass, is_ascii_digit, false≢true, none-some, name_limit, is_space, is_name_byte, is_new_key_byte, is_name_within, is_new_key, opened_before}
+use Rattle.edit_spec.proofs.Words.{closed_before, begins_command, IsClean, IsCleanTrail, Digits, is_comment, IsValue, Item, months, field_text, SetField, DropField, AddEntry, RemoveEntry, MoveEntry, RenameKey, RenameMacro, InlineMacro, IntroduceMacro, RegenerateKeys, AddMany, BadKey, BadName}
+use Rattle.edit_spec.proofs.Words.{BadValue, BadPosition, NotFound, Ambiguous, KeyInUse, NameInUse, Referred, WouldMerge, FileTooLong, TextTooLong, in_braces, remove_entry, inline_macro, IsAccepted, entries_of, parent, one_field, author_year}
+use Rattle.std.proofs.Common.{[]}
+use Rattle.edit_spec.specs.Examples.{only, waiting, z, two_lines, named_by_macro, overridden_month, quoting, same_text_twice, swapped, family}
 
 -- an edit without values has no bad one
 no_values : All (IsValue name_limit) []

@@ -1,18 +1,13 @@
 -- Adding many entries: they stand after the last one, and no old entry's crossref names them.
-use Rattle.std.proofs.Common.{◌≡◌, ℕ, zero, suc, ◌+◌, ◌<◌, ◌==◌, ◌||◌, false, cond, List, [], ◌∷◌, ◌++◌, Option, Some, None, option_map, option_and_then, slice_get, length, map, ⊎_elim, refl, sym, ◌∙◌, ap, subst, append_assoc, length-append, le_of_suc-le-suc, not-suc-le-zero}
-use Rattle.std.specs.List.{list_any, AllByRecursion}
-use Rattle.std.specs.Option.{option_map_or}
-use Rattle.std.proofs.lemmas.Bool.{cases_Bool, cond-true, cond-false, or_parts, false_from_ne_true}
-use Rattle.std.proofs.lemmas.Option.{none-some, same_Some}
+use Rattle.edit_spec.proofs.Words.{◌≡◌, ℕ, zero, suc, ◌+◌, ◌<◌, ◌==◌, ◌||◌, false, cond, List, ◌∷◌, ◌++◌, Option, Some, None, option_map, option_and_then, slice_get, length, map, ⊎_elim, refl, sym, ◌∙◌, ap, subst, append_assoc, le_of_suc-le-suc, not-suc-le-zero, list_any, AllByRecursion}
+use Rattle.edit_spec.proofs.Words.{option_map_or, cases_Bool, cond-true, cond-false, or_parts, false_from_ne_true, none-some, same_Some, Text, folded, same, Item, Macros, months, macros_after, gathered, EntryTexts, Record, RecordField, texts_of, entry_in, preamble_in, entries_of, crossref_text}
+use Rattle.edit_spec.proofs.Words.{keys_of, first_named, entry_named, is_named, target_of, target, other_than, parent, own_fields, missing, unvisited, ancestors, ancestors_from, fields_at, with_inherited, record_of, expanded, NewEntry, KeyInUse, entry_of, item_of, add_many, is_awaited, none_at}
+use Rattle.edit_spec.proofs.Words.{option_cases}
+use Rattle.std.proofs.Common.{[], length-append}
 use Rattle.std.proofs.lemmas.List.{map-append}
-use Rattle.bib_spec.specs.Text.{Text, folded, same}
-use Rattle.bib_spec.specs.Reading.{Item}
-use Rattle.bib_spec.specs.Texts.{Macros, months, macros_after, gathered}
-use Rattle.bib_spec.specs.Records.{EntryTexts, Record, RecordField, texts_of, entry_in, preamble_in, entries_of, crossref_text, keys_of, first_named, entry_named, is_named, target_of, target, other_than, parent, own_fields, missing, unvisited, ancestors, ancestors_from, fields_at, with_inherited, record_of, expanded}
-use Rattle.edit_spec.specs.Edits.{NewEntry, KeyInUse, has_same, entry_of, item_of, add_many}
-use Rattle.edit_spec.specs.OtherLaws.{same_number, is_awaited, add_many_keeps_others}
-use Rattle.bib_spec.proofs.Places.{none_from, none_at}
-use Rattle.bib_spec.proofs.Keys.{option_cases}
+use Rattle.edit_spec.specs.Edits.{has_same}
+use Rattle.edit_spec.specs.OtherLaws.{same_number, add_many_keeps_others}
+use Rattle.bib_spec.proofs.Places.{none_from}
 use Rattle.bib_spec.proofs.Parents.{parent_within}
 use Rattle.edit_spec.proofs.OneMore.{length-keys}
 use Rattle.edit_spec.proofs.OtherEntries.{unnamed_new}

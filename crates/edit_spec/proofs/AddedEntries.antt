@@ -1,15 +1,9 @@
 -- AddEntry and AddMany: a new entry is one of the grammar.
-use Rattle.std.proofs.Common.{◌≡◌, ℕ, true, List, [], ◌∷◌, ◌++◌, None, map, refl, sym, ◌∙◌, All}
-use Rattle.std.specs.List.{flat_map, list_all}
-use Rattle.std.proofs.lemmas.Bool.{and_parts}
-use Rattle.std.proofs.lemmas.List.Folds.{list_all-append}
-use Rattle.std.proofs.lemmas.List.Elements.{All-nil, All-cons, All-head, All-tail, All-append}
-use Rattle.bib_spec.specs.Bytes.{name_limit}
-use Rattle.bib_spec.specs.Text.{Text, is_name, is_new_key, is_type_name}
-use Rattle.bib_spec.specs.Tree.{Value, Row, Brace, EntryTree, is_type, is_no_keyword, IsValue, IsRow, IsEntry}
-use Rattle.bib_spec.specs.Reading.{Reading, bytes_of, IsItem, Reads}
-use Rattle.bib_spec.specs.Records.{Record}
-use Rattle.edit_spec.specs.Edits.{NewEntry, AddEntry, AddMany, new_row, line_end, new_rows, entry_of, item_of, add_entry, add_many, field_names, field_values, IsAccepted}
+use Rattle.edit_spec.proofs.Words.{◌≡◌, ℕ, true, List, ◌∷◌, ◌++◌, None, map, refl, sym, ◌∙◌, All, flat_map, list_all, and_parts, list_all-append, All-nil, All-cons, All-head, All-tail, All-append, name_limit, Text, is_name, is_new_key, is_type_name, Value, Row, Brace, EntryTree, is_type, IsValue}
+use Rattle.edit_spec.proofs.Words.{IsRow, IsEntry, Reading, bytes_of, IsItem, Reads, Record, NewEntry, AddEntry, AddMany, new_row, entry_of, item_of, add_entry, add_many, IsAccepted}
+use Rattle.std.proofs.Common.{[]}
+use Rattle.bib_spec.specs.Tree.{is_no_keyword}
+use Rattle.edit_spec.specs.Edits.{line_end, new_rows, field_names, field_values}
 use Rattle.edit_spec.proofs.Unrefuted.{given_keys-are, given_names-are, given_types-are, given_values-are}
 use Rattle.edit_spec.proofs.WrittenRows.{no_space, line_space, EndsKey, ends_at_row, ends_without_rows, new_row-is, new_key-goes_on, new_key-length}
 use Rattle.edit_spec.proofs.EditedItems.{AreItems, made_reads, in_line-is, insert-are}

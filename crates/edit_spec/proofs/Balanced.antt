@@ -1,18 +1,11 @@
 -- What macros stand for balances, since the parts of a file do.
-use Rattle.std.proofs.Common.{◌≡◌, ◌≤◌, ◌<◌, ℕ, zero, suc, ◌==◌, nat_le, Bool, true, false, List, [], ◌∷◌, Option, Some, None, unwrap_or, option_map, length, take, count_by, find, All, ⊎_elim, refl, sym, ◌∙◌, ap, subst, map, arith, suc-le-suc, zero-lt-suc}
-use Rattle.std.specs.List.{flat_map, list_any, AllByRecursion, AllPass}
-use Rattle.std.specs.Str.{bytes_eq}
-use Rattle.std.specs.Char.{is_ascii_digit}
-use Rattle.std.proofs.lemmas.Bool.{cases_Bool, cond-true, cond-false, or_parts, and_parts, ne_eqb, leb-true}
-use Rattle.std.proofs.lemmas.Option.{none-some, same_Some}
-use Rattle.bib_spec.specs.Bytes.{open_brace, close_brace, name_limit}
-use Rattle.bib_spec.specs.Text.{Text, folded, IsBalanced}
-use Rattle.bib_spec.specs.Tree.{Part, Braced, Quoted, Digits, Macro, Link, Value, Tree, CommentTree, DefinitionTree, PreambleTree, EntryTree, IsPart, IsLink, IsValue, IsTree}
-use Rattle.bib_spec.specs.Reading.{Item, IsItem}
-use Rattle.bib_spec.specs.Texts.{Macros, updated, month_names, months, part_text, raw_text, macros_in, macros_after, macros_at}
+use Rattle.edit_spec.proofs.Words.{◌≡◌, ◌≤◌, ◌<◌, ℕ, zero, suc, ◌==◌, nat_le, Bool, true, false, List, ◌∷◌, Option, Some, None, unwrap_or, option_map, length, take, count_by, find, All, ⊎_elim, refl, sym, ◌∙◌, ap, subst, map, arith, suc-le-suc, zero-lt-suc, flat_map, list_any, AllByRecursion}
+use Rattle.edit_spec.proofs.Words.{AllPass, bytes_eq, is_ascii_digit, cases_Bool, cond-true, cond-false, or_parts, and_parts, leb-true, none-some, same_Some, open_brace, close_brace, name_limit, Text, folded, IsBalanced, Part, Braced, Quoted, Digits, Macro, Link, Value, Tree, CommentTree}
+use Rattle.edit_spec.proofs.Words.{DefinitionTree, PreambleTree, EntryTree, IsPart, IsLink, IsValue, IsTree, Item, IsItem, Macros, updated, months, part_text, raw_text, macros_in, macros_after, macros_at, option_cases, count-no}
+use Rattle.std.proofs.Common.{[]}
+use Rattle.std.proofs.lemmas.Bool.{ne_eqb}
+use Rattle.bib_spec.specs.Texts.{month_names}
 use Rattle.edit_spec.specs.Laws.{macros_balance}
-use Rattle.bib_spec.proofs.Keys.{option_cases}
-use Rattle.bib_spec.proofs.Counts.{count-no}
 use Rattle.bib_spec.proofs.Balance.{balanced-append}
 
 -- a text without braces

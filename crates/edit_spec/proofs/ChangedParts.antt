@@ -1,18 +1,11 @@
 -- RenameMacro, IntroduceMacro and InlineMacro: a tree with its names and parts changed is a tree.
-use Rattle.std.proofs.Common.{◌≡◌, ◌&&◌, true, List, [], ◌∷◌, Option, Some, unwrap_or, length, map, All, codes, ⊎_elim, refl, sym, subst}
-use Rattle.std.proofs.lemmas.Bool.{and_parts}
-use Rattle.std.proofs.lemmas.Option.{none-some, cond_some}
-use Rattle.std.proofs.lemmas.List.Elements.{All-nil, All-cons, All-head, All-tail}
-use Rattle.bib_spec.specs.Bytes.{name_limit}
-use Rattle.bib_spec.specs.Text.{Text, same, is_name, is_name_byte, is_name_within, is_type_name, IsBalanced}
-use Rattle.bib_spec.specs.Tree.{Part, Braced, Quoted, Digits, Macro, Link, Value, Assignment, Row, Delimiter, Tree, CommentTree, DefinitionTree, PreambleTree, EntryTree, is_comment, IsSpace, IsPart, IsLink, IsValue, IsAssignment, IsRow, IsDefinition, IsTree}
-use Rattle.bib_spec.specs.Reading.{Item, Reading, bytes_of, IsItem, Reads}
-use Rattle.bib_spec.specs.Texts.{seen}
-use Rattle.bib_spec.specs.Records.{Record}
-use Rattle.part_spec.specs.Parts.{holds, any_part}
-use Rattle.edit_spec.specs.Edits.{RenameMacro, InlineMacro, IntroduceMacro, WouldMerge, changed, link_with, value_with, assignment_with, row_with, tree_with, item_with, items_with, leaving, defines, from_first, in_line, in_braces, name_renamed, use_renamed, rename_macro, use_inlined, uses_inlined, text_of_macro, inline_macro, definition_of, part_introduced, introduced, introduce_macro, IsAccepted}
+use Rattle.edit_spec.proofs.Words.{◌≡◌, ◌&&◌, true, List, ◌∷◌, Option, Some, unwrap_or, length, map, All, codes, ⊎_elim, refl, sym, subst, and_parts, none-some, cond_some, All-nil, All-cons, All-head, All-tail, name_limit, Text, same, is_name, is_name_byte, is_name_within, is_type_name, IsBalanced}
+use Rattle.edit_spec.proofs.Words.{Part, Braced, Quoted, Digits, Macro, Link, Value, Assignment, Row, Delimiter, Tree, CommentTree, DefinitionTree, PreambleTree, EntryTree, is_comment, IsSpace, IsPart, IsLink, IsValue, IsRow, IsTree, Item, Reading, bytes_of, IsItem, Reads, seen, Record, holds}
+use Rattle.edit_spec.proofs.Words.{any_part, RenameMacro, InlineMacro, IntroduceMacro, WouldMerge, changed, link_with, value_with, assignment_with, row_with, tree_with, item_with, items_with, leaving, defines, from_first, in_line, in_braces, name_renamed, use_renamed, rename_macro, use_inlined}
+use Rattle.edit_spec.proofs.Words.{uses_inlined, text_of_macro, inline_macro, definition_of, part_introduced, introduced, introduce_macro, IsAccepted, option_cases}
+use Rattle.std.proofs.Common.{[]}
+use Rattle.bib_spec.specs.Tree.{IsAssignment, IsDefinition}
 use Rattle.edit_spec.proofs.Balanced.{empty_balanced, macros-balance}
-use Rattle.bib_spec.proofs.Keys.{option_cases}
 use Rattle.edit_spec.proofs.Unrefuted.{unrefuted_texts, given_names-are, given_values-are}
 use Rattle.edit_spec.proofs.WrittenRows.{no_space, one_space, EndsKey, ends_at_row, are_rows, entry-is}
 use Rattle.edit_spec.proofs.EditedItems.{AreItems, made_reads, trees_of, clean_reads, item_as, in_line-is, from_first-are, without_first-are}

@@ -1,18 +1,13 @@
 -- What the entries' new keys cite.
-use Rattle.std.proofs.Common.{◌≡◌, ℕ, ◌+◌, true, false, cond, not, ◌&&◌, ◌==◌, nat_le, List, [], ◌∷◌, ◌++◌, Option, Some, is_some, is_none, unwrap_or, option_and_then, slice_get, ⊎_elim, refl, sym, ◌∙◌, ap, ap₂, subst, map, filter, filter_map, count_by, length}
-use Rattle.std.specs.List.{list_any, list_all, enumerate_from, cons_option, range_with_len}
-use Rattle.std.specs.Option.{option_map_or}
-use Rattle.std.proofs.Math.Path.{fun_ext}
-use Rattle.std.proofs.lemmas.Bool.{cases_Bool, cond-true, cond-false, false≢true, and_parts}
-use Rattle.bib_spec.specs.Text.{Text, folded, same}
-use Rattle.bib_spec.specs.Reading.{Reading}
-use Rattle.bib_spec.specs.Texts.{months, is_empty}
-use Rattle.bib_spec.specs.Records.{EntryTexts, entries_of, keys_of, first_named, entry_named, parent, expanded, once, numbers_of, cited_by_key, with_parents, cites_all, listed, unknown}
-use Rattle.edit_spec.specs.Edits.{with_keys}
-use Rattle.edit_spec.specs.Laws.{renamed_key, KeepsEntries, KeepsMacros, KeepsCitationsByKey}
-use Rattle.bib_spec.proofs.Names.{same-true}
-use Rattle.bib_spec.proofs.Places.{IsFirst, first_is, first_named_same}
-use Rattle.bib_spec.proofs.Keys.{option_cases, keys_with, key_at, first_kept, first_new}
+use Rattle.edit_spec.proofs.Words.{◌≡◌, ℕ, ◌+◌, true, false, cond, not, ◌&&◌, ◌==◌, nat_le, List, ◌∷◌, ◌++◌, Option, Some, is_some, is_none, unwrap_or, option_and_then, slice_get, ⊎_elim, refl, sym, ◌∙◌, ap, ap₂, subst, map, filter, filter_map, count_by, length, list_any, list_all, enumerate_from}
+use Rattle.edit_spec.proofs.Words.{cons_option, option_map_or, fun_ext, cases_Bool, cond-true, cond-false, false≢true, and_parts, Text, folded, same, Reading, months, is_empty, EntryTexts, entries_of, keys_of, first_named, entry_named, parent, expanded, listed, unknown, with_keys, KeepsEntries}
+use Rattle.edit_spec.proofs.Words.{same-true, IsFirst, first_is, option_cases, keys_with, first_kept, first_new}
+use Rattle.std.proofs.Common.{[]}
+use Rattle.std.specs.List.{range_with_len}
+use Rattle.bib_spec.specs.Records.{once, numbers_of, cited_by_key, with_parents, cites_all}
+use Rattle.edit_spec.specs.Laws.{renamed_key, KeepsMacros, KeepsCitationsByKey}
+use Rattle.bib_spec.proofs.Places.{first_named_same}
+use Rattle.bib_spec.proofs.Keys.{key_at}
 use Rattle.edit_spec.proofs.Rekeyed.{length-entries_with, entries_rekeyed, preambles_rekeyed, macros_rekeyed, keys-entries_with, CanRekey, rekeyed, parent_kept, expanded_kept}
 
 -- the listed entries and their parents, from each entry's parent and all numbers

@@ -1,14 +1,9 @@
 -- DropField: the entry without its field is an entry, since its key still ends where it did.
-use Rattle.std.proofs.Common.{◌≡◌, Bool, true, false, List, [], ◌∷◌, ◌++◌, Some, All, find, ⊎_elim, refl, sym, ◌∙◌, ap, subst}
-use Rattle.std.specs.Option.{option_map_or}
-use Rattle.std.proofs.lemmas.Bool.{cases_Bool, cond-true, cond-false, false_from_ne_true, false≢true}
-use Rattle.std.proofs.lemmas.List.Elements.{All-nil, All-cons, All-head, All-tail, All-append}
-use Rattle.bib_spec.specs.Bytes.{name_limit}
-use Rattle.bib_spec.specs.Text.{Text, same, is_space}
-use Rattle.bib_spec.specs.Tree.{Row, Entry, Tree, CommentTree, DefinitionTree, PreambleTree, EntryTree, IsSpace, IsRow, IsEntry, IsTree}
-use Rattle.bib_spec.specs.Reading.{Item, Reading, bytes_of, IsItem, Reads}
-use Rattle.bib_spec.specs.Records.{Record, is_named}
-use Rattle.edit_spec.specs.Edits.{DropField, WouldMerge, is_entry, from_first, with_first_tree, of_entry, row_before, without_field, entry_without_field, drop_field, ends_in_key, tree_ends_in_key, IsAccepted}
+use Rattle.edit_spec.proofs.Words.{◌≡◌, Bool, true, false, List, ◌∷◌, ◌++◌, Some, All, find, ⊎_elim, refl, sym, ◌∙◌, ap, subst, option_map_or, cases_Bool, cond-true, cond-false, false_from_ne_true, false≢true, All-nil, All-cons, All-head, All-tail, All-append, name_limit, Text, same, is_space, Row}
+use Rattle.edit_spec.proofs.Words.{Entry, Tree, CommentTree, DefinitionTree, PreambleTree, EntryTree, IsSpace, IsRow, IsEntry, IsTree, Item, Reading, bytes_of, IsItem, Reads, Record, is_named, DropField, WouldMerge, is_entry, from_first, with_first_tree, of_entry, row_before, without_field}
+use Rattle.edit_spec.proofs.Words.{entry_without_field, IsAccepted}
+use Rattle.std.proofs.Common.{[]}
+use Rattle.edit_spec.specs.Edits.{drop_field, ends_in_key, tree_ends_in_key}
 use Rattle.edit_spec.proofs.WrittenRows.{EndsKey, ends_at_row, ends_without_rows, AreRows, are_rows, row_before_space, not_empty, entry-is}
 use Rattle.edit_spec.proofs.EditedItems.{AreItems, made_reads, item_as, named_not_empty, comment-of_entry}
 

@@ -1,22 +1,16 @@
 -- The chunks of an edit have the file as their old text, and the file of the new database as their new text.
-use Rattle.std.proofs.Common.{◌≡◌, ℕ, zero, suc, Bool, true, false, List, [], ◌∷◌, ◌++◌, Option, Some, None, option_and_then, unwrap_or, refl, sym, ◌∙◌, ap, ap₂, subst, append_assoc, append-nil, take, drop, insert, take-append-drop, map, find, scan, slice_get, ⊎_elim}
-use Rattle.std.specs.Option.{option_map_or}
-use Rattle.std.specs.List.{flat_map, concat}
-use Rattle.std.proofs.lemmas.Bool.{cases_Bool, cond-true, cond-false}
-use Rattle.std.proofs.lemmas.List.Concat.{flat_map-append}
-use Rattle.bib_spec.specs.Text.{Text, same}
-use Rattle.bib_spec.specs.Tree.{Value, Row, Entry, Tree, CommentTree, DefinitionTree, PreambleTree, EntryTree, value_bytes, row_bytes, tree_bytes}
-use Rattle.bib_spec.specs.Reading.{Item, Reading, item_bytes, bytes_of}
-use Rattle.bib_spec.specs.Texts.{row_start}
-use Rattle.bib_spec.specs.Records.{EntryTexts, Record, entries_of, crossref, entry_named, target}
-use Rattle.bib_spec.specs.Pieces.{Chunk, Kept, Replaced, Fit, applied}
-use Rattle.bib_spec.specs.MadeKeys.{new_keys}
-use Rattle.part_spec.specs.Parts.{holds, any_part}
-use Rattle.edit_spec.specs.Edits.{NewEntry, Edit, SetField, DropField, AddEntry, RemoveEntry, MoveEntry, RenameKey, RenameMacro, InlineMacro, IntroduceMacro, RegenerateKeys, AddMany, leaving, defines, is_entry, from_first, with_first_tree, without_first, with_item, items_with, new_row, row_to, row_before, with_field, without_field, entry_with_rows, of_entry, item_of, in_line, in_braces, with_value, with_crossref, next_number, tree_with_keys, items_with_keys, key_for, name_renamed, use_renamed, use_inlined, uses_inlined, text_of_macro, definition_of, part_introduced, introduced, edited}
-use Rattle.edit_spec.specs.EditChunks.{token, entry_chunks, items_chunks, kept_item, kept_items, kept_rows, body_and_rest, chunks_from_first, without_body, entry_body, entry_as, value_replaced, field_set, field_dropped, crossref_chunks, tree_key_chunks, item_key_chunks, groups_without, inserted, moved, appended, changed_items, chunks, pieces_of}
+use Rattle.edit_spec.proofs.Words.{◌≡◌, ℕ, zero, suc, Bool, true, false, List, ◌∷◌, ◌++◌, Option, Some, None, option_and_then, unwrap_or, refl, sym, ◌∙◌, ap, ap₂, subst, append_assoc, append-nil, take, drop, insert, map, find, slice_get, ⊎_elim, option_map_or, flat_map, cases_Bool, cond-true}
+use Rattle.edit_spec.proofs.Words.{cond-false, flat_map-append, Text, same, Value, Row, Entry, Tree, CommentTree, DefinitionTree, PreambleTree, EntryTree, value_bytes, row_bytes, tree_bytes, Item, Reading, item_bytes, bytes_of, row_start, EntryTexts, Record, entries_of, crossref, entry_named}
+use Rattle.edit_spec.proofs.Words.{target, Chunk, Kept, Replaced, applied, new_keys, holds, any_part, NewEntry, Edit, SetField, DropField, AddEntry, RemoveEntry, MoveEntry, RenameKey, RenameMacro, InlineMacro, IntroduceMacro, RegenerateKeys, AddMany, leaving, defines, is_entry, from_first}
+use Rattle.edit_spec.proofs.Words.{with_first_tree, without_first, with_item, items_with, new_row, row_to, row_before, with_field, without_field, of_entry, item_of, in_line, in_braces, with_value, with_crossref, next_number, tree_with_keys, items_with_keys, key_for, name_renamed, use_renamed}
+use Rattle.edit_spec.proofs.Words.{use_inlined, uses_inlined, text_of_macro, definition_of, part_introduced, introduced, edited, token, entry_chunks, items_chunks, kept_items, kept_rows, pieces_of, option_cases}
+use Rattle.std.proofs.Common.{[], take-append-drop, scan}
+use Rattle.std.specs.List.{concat}
+use Rattle.bib_spec.specs.Pieces.{Fit}
+use Rattle.edit_spec.specs.Edits.{entry_with_rows}
+use Rattle.edit_spec.specs.EditChunks.{kept_item, body_and_rest, chunks_from_first, without_body, entry_body, entry_as, value_replaced, field_set, field_dropped, crossref_chunks, tree_key_chunks, item_key_chunks, groups_without, inserted, moved, appended, changed_items, chunks}
 use Rattle.edit_spec.specs.Laws.{chunks_are_files, pieces_lead_to_edited}
 use Rattle.edit_spec.proofs.TreeChunks.{read, old-read, new-read, read-append, token_old, token_new, row-parts, last-read, entry-read, items-old, items-new, rows-kept, items-kept}
-use Rattle.bib_spec.proofs.Keys.{option_cases}
 use Rattle.bib_spec.proofs.Chunks.{chunks-fit, chunks-lead}
 
 abbrev items_bytes : List Item → Text

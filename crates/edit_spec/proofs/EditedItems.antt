@@ -1,16 +1,10 @@
 -- Items that an edit leaves, puts in or takes out.
-use Rattle.std.proofs.Common.{◌≡◌, ℕ, Bool, true, false, List, [], ◌∷◌, ◌++◌, Some, codes, All, find, insert, take, drop, ⊎_elim, refl, sym, ◌∙◌, subst}
-use Rattle.std.proofs.lemmas.Bool.{cases_Bool, cond-true, cond-false, and_parts, false≢true, not-true}
-use Rattle.std.proofs.lemmas.Option.{none-some, same_Some}
-use Rattle.std.proofs.lemmas.List.Elements.{All-nil, All-cons, All-head, All-tail, All-take, All-drop, All-append}
-use Rattle.bib_spec.specs.Bytes.{name_limit}
-use Rattle.bib_spec.specs.Text.{Text, is_name_byte, is_type_byte, same, does_not_begin_with}
-use Rattle.bib_spec.specs.Clean.{IsClean, IsCleanTrail}
-use Rattle.bib_spec.specs.Tree.{Entry, Tree, CommentTree, DefinitionTree, PreambleTree, EntryTree, is_comment, IsEntry, IsTree}
-use Rattle.bib_spec.specs.Reading.{Item, Reading, bytes_of, IsItem, Reads}
-use Rattle.bib_spec.specs.Texts.{is_empty}
-use Rattle.bib_spec.specs.Records.{is_named}
-use Rattle.edit_spec.specs.Edits.{is_entry, from_first, without_first, of_entry, in_line, HasCleanTexts}
+use Rattle.edit_spec.proofs.Words.{◌≡◌, ℕ, Bool, true, false, List, ◌∷◌, ◌++◌, Some, codes, All, find, insert, take, drop, ⊎_elim, refl, sym, ◌∙◌, subst, cases_Bool, cond-true, cond-false, and_parts, false≢true, not-true, none-some, same_Some, All-nil, All-cons, All-head, All-tail, All-append}
+use Rattle.edit_spec.proofs.Words.{name_limit, Text, is_name_byte, same, does_not_begin_with, IsClean, IsCleanTrail, Entry, Tree, CommentTree, DefinitionTree, PreambleTree, EntryTree, is_comment, IsEntry, IsTree, Item, Reading, bytes_of, IsItem, Reads, is_empty, is_named, is_entry, from_first}
+use Rattle.edit_spec.proofs.Words.{without_first, of_entry, in_line, HasCleanTexts}
+use Rattle.std.proofs.Common.{[]}
+use Rattle.std.proofs.lemmas.List.Elements.{All-take, All-drop}
+use Rattle.bib_spec.specs.Text.{is_type_byte}
 use Rattle.edit_spec.proofs.AcceptedExamples.{line_clean}
 
 abbrev pub AreItems : List Item → Type 0

@@ -1,14 +1,7 @@
 -- What every accepted edit makes is a reading of its bytes, and its file can be opened.
-use Rattle.std.proofs.Common.{◌≡◌, ◌≤◌, is_some, length, ⊎_elim, sym, ◌∙◌, ap, subst}
-use Rattle.bib_spec.specs.Bytes.{file_limit}
-use Rattle.bib_spec.specs.Text.{Text}
-use Rattle.bib_spec.specs.Reading.{Reads, bytes_of}
-use Rattle.bib_spec.specs.Texts.{too_long_at}
-use Rattle.bib_spec.specs.Pieces.{applied}
-use Rattle.edit_spec.specs.Edits.{SetField, DropField, AddEntry, RemoveEntry, MoveEntry, RenameKey, RenameMacro, InlineMacro, IntroduceMacro, RegenerateKeys, AddMany, TextTooLong, edited}
-use Rattle.edit_spec.specs.EditChunks.{pieces_of}
+use Rattle.edit_spec.proofs.Words.{◌≡◌, ◌≤◌, is_some, length, ⊎_elim, sym, ◌∙◌, ap, subst, file_limit, Text, Reads, bytes_of, too_long_at, applied, SetField, DropField, AddEntry, RemoveEntry, MoveEntry, RenameKey, RenameMacro, InlineMacro, IntroduceMacro, RegenerateKeys, AddMany, TextTooLong}
+use Rattle.edit_spec.proofs.Words.{edited, pieces_of, option_cases}
 use Rattle.edit_spec.specs.EditLaws.{edited_reads, applied_opens}
-use Rattle.bib_spec.proofs.Keys.{option_cases}
 use Rattle.edit_spec.proofs.EditFiles.{pieces-lead}
 use Rattle.edit_spec.proofs.Unrefuted.{edited-short}
 use Rattle.edit_spec.proofs.SetField.{set_field-reads}

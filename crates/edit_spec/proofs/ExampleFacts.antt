@@ -1,12 +1,6 @@
 -- What the examples of refusals need beyond computation.
-use Rattle.std.proofs.Common.{refl, sym, zero-lt-suc, codes}
-use Rattle.std.proofs.lemmas.Bool.{false≢true}
-use Rattle.bib_spec.specs.Text.{is_space, is_name_byte, is_name_within}
-use Rattle.bib_spec.specs.Clean.{begins_command}
-use Rattle.bib_spec.specs.Tree.{Macro, CommentTree}
-use Rattle.bib_spec.specs.Reading.{Item}
-use Rattle.edit_spec.specs.Edits.{Refuses, BadValue, WouldMerge, SetField, RemoveEntry}
-use Rattle.edit_spec.specs.Examples.{author_year, only, one_field, address_before, comment_before}
+use Rattle.edit_spec.proofs.Words.{refl, sym, zero-lt-suc, codes, false≢true, is_space, is_name_byte, is_name_within, begins_command, Macro, CommentTree, Item, Refuses, BadValue, WouldMerge, SetField, RemoveEntry, author_year, one_field}
+use Rattle.edit_spec.specs.Examples.{only, address_before, comment_before}
 use Rattle.std.specs.Prelude.{[]}
 
 -- a brace is no name

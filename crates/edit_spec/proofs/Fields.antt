@@ -1,14 +1,10 @@
 -- The fields of an entry whose crossref gets another text.
-use Rattle.std.proofs.Common.{◌≡◌, Bool, true, false, not, List, [], ◌∷◌, Option, Some, None, option_map, ⊎_elim, refl, sym, ◌∙◌, ap, map, filter, find, append-nil}
-use Rattle.std.proofs.lemmas.Bool.{cases_Bool, cond-true, cond-false, not_from_true, not_from_false}
-use Rattle.std.proofs.lemmas.Option.{none-some}
+use Rattle.edit_spec.proofs.Words.{◌≡◌, Bool, true, false, not, List, ◌∷◌, Option, Some, None, option_map, ⊎_elim, refl, sym, ◌∙◌, ap, map, filter, find, append-nil, cases_Bool, cond-true, cond-false, not_from_false, none-some, Text, same, Row, Macros, field_text, Field, EntryTexts, field_of}
+use Rattle.edit_spec.proofs.Words.{crossref, has_name, own_fields, row_to, with_value, in_braces, with_crossref, option_cases}
+use Rattle.std.proofs.Common.{[]}
+use Rattle.std.proofs.lemmas.Bool.{not_from_true}
 use Rattle.std.specs.Prelude.{if◌then◌else◌}
-use Rattle.bib_spec.specs.Text.{Text, same}
-use Rattle.bib_spec.specs.Tree.{Row}
-use Rattle.bib_spec.specs.Texts.{Macros, field_text}
-use Rattle.bib_spec.specs.Records.{Field, EntryTexts, record_field, field_of, crossref, has_name, effective, own_fields}
-use Rattle.edit_spec.specs.Edits.{row_to, with_value, in_braces, with_crossref}
-use Rattle.bib_spec.proofs.Keys.{option_cases}
+use Rattle.bib_spec.specs.Records.{record_field, effective}
 
 -- a field with another text
 abbrev pub saying : Text → Field → Field

@@ -1,13 +1,6 @@
 -- A name that is not in use among items: what each part and each definition then is.
-use Rattle.std.proofs.Common.{◌≡◌, Bool, false, ◌||◌, List, [], ◌∷◌, map}
-use Rattle.std.specs.List.{list_any, AllByRecursion}
-use Rattle.std.proofs.lemmas.Bool.{or_parts}
-use Rattle.bib_spec.specs.Text.{Text, same}
-use Rattle.bib_spec.specs.Tree.{Part, Value, Row, Tree, CommentTree, DefinitionTree, PreambleTree, EntryTree}
-use Rattle.bib_spec.specs.Reading.{Item}
-use Rattle.bib_spec.specs.Texts.{parts_of}
-use Rattle.part_spec.specs.Parts.{any_part}
-use Rattle.edit_spec.specs.Edits.{defines}
+use Rattle.edit_spec.proofs.Words.{◌≡◌, Bool, false, ◌||◌, List, ◌∷◌, map, list_any, AllByRecursion, or_parts, Text, same, Part, Value, Row, Tree, CommentTree, DefinitionTree, PreambleTree, EntryTree, Item, parts_of, any_part, defines}
+use Rattle.std.proofs.Common.{[]}
 use Rattle.edit_spec.proofs.Simulation.{Parts, Rows, InTree, InItems}
 
 pub all_of : {X : Type 0} (P : X → Type 0) → ((x : X) → P x) → (xs : List X) → AllByRecursion P xs

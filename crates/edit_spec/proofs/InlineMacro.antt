@@ -1,17 +1,10 @@
 -- InlineMacro: the definition is removed, each use after it becomes its text, and every field's text is unchanged.
-use Rattle.std.proofs.Common.{◌≡◌, ℕ, zero, suc, true, false, List, [], ◌∷◌, ◌++◌, Option, Some, None, unwrap_or, length, ⊎_elim, refl, sym, ◌∙◌, ap, count_by, arith}
-use Rattle.std.specs.Str.{bytes_eq}
-use Rattle.std.proofs.lemmas.Bool.{cases_Bool, cond-true, cond-false, false_from_ne_true, false≢true, both_ways, or_parts, or_from, or_cases}
-use Rattle.bib_spec.specs.Text.{Text, folded, same}
-use Rattle.bib_spec.specs.Tree.{Part, Braced, Quoted, Digits, Macro, Tree, CommentTree, DefinitionTree, PreambleTree, EntryTree}
-use Rattle.bib_spec.specs.Reading.{Item, Reading}
-use Rattle.bib_spec.specs.Texts.{Macros, updated, part_text, raw_text, macros_in, macros_after, macros_at, gathered}
-use Rattle.bib_spec.specs.Records.{entry_in, preamble_in}
-use Rattle.edit_spec.specs.Edits.{changed, leaving, tree_with, items_with, defines, from_first, use_inlined, uses_inlined, without_first}
-use Rattle.edit_spec.specs.Laws.{is_after}
-use Rattle.bib_spec.proofs.Names.{same-is, same-true, same_of, true-eq}
+use Rattle.edit_spec.proofs.Words.{◌≡◌, ℕ, zero, suc, true, false, List, ◌∷◌, ◌++◌, Option, Some, None, unwrap_or, length, ⊎_elim, refl, sym, ◌∙◌, ap, count_by, arith, bytes_eq, cases_Bool, cond-true, cond-false, false_from_ne_true, false≢true, both_ways, or_parts, or_from, or_cases, Text, folded}
+use Rattle.edit_spec.proofs.Words.{same, Part, Braced, Quoted, Digits, Macro, Tree, CommentTree, DefinitionTree, PreambleTree, EntryTree, Item, Reading, Macros, updated, part_text, raw_text, macros_in, macros_after, macros_at, gathered, entry_in, preamble_in, changed, leaving, tree_with, items_with}
+use Rattle.edit_spec.proofs.Words.{defines, from_first, use_inlined, uses_inlined, without_first, is_after, same-is, same-true, true-eq, count-yes, count-no}
+use Rattle.std.proofs.Common.{[]}
+use Rattle.bib_spec.proofs.Names.{same_of}
 use Rattle.edit_spec.proofs.InUse.{InTree_undefined}
-use Rattle.bib_spec.proofs.Counts.{count-yes, count-no}
 use Rattle.edit_spec.proofs.Seen.{undefined}
 use Rattle.edit_spec.proofs.Simulation.{InTree, InItems, AgreeOn, names_stay, name_stays, entry_same, preamble_same, gathered_same, at_same}
 

@@ -1,16 +1,8 @@
 -- IntroduceMacro: a name that was not in use stands for the text, and every text is unchanged.
-use Rattle.std.proofs.Common.{◌≡◌, ℕ, zero, suc, Bool, true, false, cond, ◌||◌, List, [], ◌∷◌, ◌++◌, Option, Some, None, unwrap_or, ⊎_elim, refl, sym, ◌∙◌, ap, ap₂, append-nil}
-use Rattle.std.specs.Str.{bytes_eq}
-use Rattle.std.proofs.lemmas.Bool.{cond-true, cond-false, cond_both, false≢true, both_ways, or_parts, or_cases, cases_Bool}
-use Rattle.bib_spec.specs.Text.{Text, folded, same}
-use Rattle.bib_spec.specs.Tree.{Part, Braced, Quoted, Digits, Macro, Tree, DefinitionTree}
-use Rattle.bib_spec.specs.Reading.{Item}
-use Rattle.bib_spec.specs.Texts.{Macros, updated, part_text, macros_after, macros_at, gathered}
-use Rattle.bib_spec.specs.Records.{entry_in, preamble_in}
-use Rattle.part_spec.specs.Parts.{uses, holds, any_part}
-use Rattle.edit_spec.specs.Edits.{changed, leaving, tree_with, from_first, part_introduced, definition_of, introduced}
-use Rattle.edit_spec.specs.Laws.{is_reached}
-use Rattle.bib_spec.proofs.Names.{same-is, true-eq, eq-true}
+use Rattle.edit_spec.proofs.Words.{◌≡◌, ℕ, zero, suc, Bool, true, false, cond, ◌||◌, List, ◌∷◌, ◌++◌, Option, Some, None, unwrap_or, ⊎_elim, refl, sym, ◌∙◌, ap, ap₂, append-nil, bytes_eq, cond-true, cond-false, cond_both, false≢true, both_ways, or_parts, or_cases, cases_Bool, Text, folded, same}
+use Rattle.edit_spec.proofs.Words.{Part, Braced, Quoted, Digits, Macro, Tree, DefinitionTree, Item, Macros, updated, part_text, macros_after, macros_at, gathered, entry_in, preamble_in, uses, holds, any_part, changed, leaving, tree_with, from_first, part_introduced, definition_of, introduced}
+use Rattle.edit_spec.proofs.Words.{is_reached, same-is, true-eq, eq-true}
+use Rattle.std.proofs.Common.{[]}
 use Rattle.edit_spec.proofs.Simulation.{InTree, InItems, AgreeOn, names_stay, name_stays, entry_same, preamble_same, gathered_same, at_same}
 
 module _ (name held : Text) where

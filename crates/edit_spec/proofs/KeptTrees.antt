@@ -1,13 +1,8 @@
 -- A tree in which a change of names and parts finds nothing to change.
-use Rattle.std.proofs.Common.{◌≡◌, Bool, false, List, [], ◌∷◌, Option, None, unwrap_or, map, refl, ap, ap₂}
+use Rattle.edit_spec.proofs.Words.{◌≡◌, Bool, false, List, ◌∷◌, Option, None, unwrap_or, map, refl, ap, ap₂, list_any, or_parts, Text, Part, Link, Value, Assignment, Row, Definition, Preamble, Entry, Tree, CommentTree, DefinitionTree, PreambleTree, EntryTree, parts_of, any_part, changed, link_with}
+use Rattle.edit_spec.proofs.Words.{value_with, assignment_with, row_with, tree_with, leaving}
+use Rattle.std.proofs.Common.{[]}
 use Rattle.std.specs.Prelude.{⊤}
-use Rattle.std.specs.List.{list_any}
-use Rattle.std.proofs.lemmas.Bool.{or_parts}
-use Rattle.bib_spec.specs.Text.{Text}
-use Rattle.bib_spec.specs.Tree.{Part, Link, Value, Assignment, Row, Definition, Preamble, Entry, Tree, CommentTree, DefinitionTree, PreambleTree, EntryTree}
-use Rattle.bib_spec.specs.Texts.{parts_of}
-use Rattle.part_spec.specs.Parts.{any_part}
-use Rattle.edit_spec.specs.Edits.{changed, link_with, value_with, assignment_with, row_with, tree_with, leaving}
 
 -- the tree's defined name, if it has one, is left
 abbrev pub IsNameLeft : (Text → Option Text) → Tree → Type 0

@@ -1,4 +1,5 @@
 -- ---- entries whose keys change
+pub mod Words
 pub mod Fields
 pub mod Rekeyed
 pub mod CitedLists

@@ -1,17 +1,9 @@
 -- The laws of the macro edits.
-use Rattle.std.proofs.Common.{◌≡◌, ℕ, true, false, not, ◌||◌, ◌&&◌, is_some, Option, Some, None, option_map, ⊎_elim, refl, sym, ◌∙◌, ap, length, count_by}
-use Rattle.std.specs.List.{list_any}
-use Rattle.std.proofs.lemmas.Bool.{cases_Bool, both_ways, or_parts, and_cases, false_from_ne_true, not-false}
-use Rattle.bib_spec.specs.Text.{Text, folded, same}
-use Rattle.bib_spec.specs.Tree.{Part, Braced, Quoted, Digits, Macro}
-use Rattle.bib_spec.specs.Reading.{Reading}
-use Rattle.bib_spec.specs.Texts.{months, macros_at, seen}
-use Rattle.bib_spec.specs.Records.{Record, entries_of, preambles_of, expanded, parent, listed, unknown}
-use Rattle.part_spec.specs.Parts.{uses, any_part}
-use Rattle.edit_spec.specs.Edits.{defines, is_in_use, rename_macro, inline_macro, introduce_macro, text_of_macro, NotFound, Ambiguous, NameInUse}
-use Rattle.edit_spec.specs.Laws.{record_with_key, no_new_key, KeepsEntries, KeepsCitations, is_after, SeesRenamed, rename_macro_keeps, inline_macro_keeps, introduce_macro_keeps}
-use Rattle.bib_spec.proofs.Accepted.{there_once}
-use Rattle.bib_spec.proofs.Names.{same-true, true-same}
+use Rattle.edit_spec.proofs.Words.{◌≡◌, ℕ, true, false, not, ◌||◌, ◌&&◌, is_some, Option, Some, None, option_map, ⊎_elim, refl, sym, ◌∙◌, ap, length, count_by, list_any, cases_Bool, both_ways, or_parts, and_cases, false_from_ne_true, not-false, Text, folded, same, Part, Braced, Quoted, Digits}
+use Rattle.edit_spec.proofs.Words.{Macro, Reading, months, macros_at, seen, Record, entries_of, preambles_of, expanded, parent, listed, unknown, uses, any_part, defines, rename_macro, inline_macro, introduce_macro, text_of_macro, NotFound, Ambiguous, NameInUse, record_with_key, KeepsEntries}
+use Rattle.edit_spec.proofs.Words.{is_after, there_once, same-true, true-same}
+use Rattle.edit_spec.specs.Edits.{is_in_use}
+use Rattle.edit_spec.specs.Laws.{no_new_key, KeepsCitations, SeesRenamed, rename_macro_keeps, inline_macro_keeps, introduce_macro_keeps}
 use Rattle.edit_spec.proofs.Simulation.{InItems}
 use Rattle.edit_spec.proofs.InUse.{InItems_none, InItems_all}
 use Rattle.edit_spec.proofs.InlineMacro.{entries_inlined, preambles_inlined, at_inlined}

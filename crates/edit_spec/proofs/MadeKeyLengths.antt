@@ -1,22 +1,14 @@
 -- Made keys are keys that an edit may write: the letters that fit after a base are enough for a file's entries.
-use Rattle.std.proofs.Common.{◌≡◌, ℕ, zero, suc, ◌+◌, ◌≤◌, ◌<◌, nat_lt, nat_le, Bool, true, not, ◌&&◌, List, [], ◌∷◌, Option, Some, None, unwrap_or, length, map, find, filter_map, reverse, slice_get, ⊎_elim, refl, sym, ◌∙◌, ap, subst, ltb-true, lt-ltb, arith}
-use Rattle.std.specs.List.{flat_map, list_all, enumerate_from, cons_option, AllByRecursion}
-use mathlib.Core.List.{reverse-cons}
-use Rattle.std.proofs.lemmas.Bool.{cases_Bool, cond-true, cond-false, and_parts, and_from, ltb-false, le-leb}
-use Rattle.std.proofs.lemmas.Option.{none-some, same_Some}
+use Rattle.edit_spec.proofs.Words.{◌≡◌, ℕ, zero, suc, ◌+◌, ◌≤◌, ◌<◌, nat_lt, nat_le, Bool, true, not, ◌&&◌, List, ◌∷◌, Option, Some, None, unwrap_or, length, map, find, filter_map, reverse, slice_get, ⊎_elim, refl, sym, ◌∙◌, ap, subst, arith, flat_map, list_all, enumerate_from, cons_option}
+use Rattle.edit_spec.proofs.Words.{AllByRecursion, reverse-cons, cases_Bool, cond-true, cond-false, and_parts, and_from, ltb-false, none-some, same_Some, list_all-append, name_limit, file_limit, Text, is_new_key, is_new_key_byte, Tree, CommentTree, DefinitionTree, PreambleTree, EntryTree}
+use Rattle.edit_spec.proofs.Words.{tree_bytes, Item, Reading, item_bytes, bytes_of, Reads, Macros, months, macros_after, gathered, EntryTexts, Record, record_of, entry_in, entries_of, dangling_text, dangling_texts, letters, candidate, is_taken, free_key, made_keys, bases, new_keys, IsKeyBase}
+use Rattle.edit_spec.proofs.Words.{RegenerateKeys, next_number, items_with_keys, regenerate_keys, IsAccepted, lower_letters, free_key_free, new_key_byte-lower}
+use Rattle.std.proofs.Common.{[], ltb-true, lt-ltb}
+use Rattle.std.proofs.lemmas.Bool.{le-leb}
 use Rattle.std.proofs.lemmas.List.{length-append, length-map, length-reverse}
-use Rattle.std.proofs.lemmas.List.Folds.{list_all-append}
 use Rattle.std.proofs.lemmas.List.FromFn.{length-enumerate_from}
-use Rattle.bib_spec.specs.Bytes.{name_limit, file_limit}
-use Rattle.bib_spec.specs.Text.{Text, is_new_key, is_new_key_byte}
-use Rattle.bib_spec.specs.Tree.{Tree, CommentTree, DefinitionTree, PreambleTree, EntryTree, tree_bytes}
-use Rattle.bib_spec.specs.Reading.{Item, Reading, item_bytes, bytes_of, Reads}
-use Rattle.bib_spec.specs.Texts.{Macros, months, macros_after, gathered}
-use Rattle.bib_spec.specs.Records.{EntryTexts, Record, record_of, entry_in, entries_of, dangling_text, dangling_texts}
-use Rattle.bib_spec.specs.MadeKeys.{letters, candidate, candidates, is_taken, free_key, made_keys, bases, new_keys, base_limit, IsKeyBase}
-use Rattle.edit_spec.specs.Edits.{RegenerateKeys, next_number, items_with_keys, regenerate_keys, IsAccepted}
-use Rattle.bib_spec.proofs.FreeKeys.{AreLower, lower_letters, written-letters, doubled, doubled-grows, doubled-written, free_key_free}
-use Rattle.bib_spec.proofs.NewKeyBytes.{new_key_byte-lower}
+use Rattle.bib_spec.specs.MadeKeys.{candidates, base_limit}
+use Rattle.bib_spec.proofs.FreeKeys.{AreLower, written-letters, doubled, doubled-grows, doubled-written}
 use Rattle.edit_spec.proofs.RekeyedEntries.{with_keys-reads}
 use Rattle.edit_spec.proofs.Unrefuted.{edited-short}
 

@@ -1,13 +1,6 @@
 -- RemoveEntry and MoveEntry: what stays is a database that reads, since the joined texts are clean.
-use Rattle.std.proofs.Common.{ℕ, Option, find, ⊎_elim, sym, ap, subst}
-use Rattle.std.specs.Option.{option_map_or}
-use Rattle.bib_spec.specs.Bytes.{name_limit}
-use Rattle.bib_spec.specs.Text.{Text}
-use Rattle.bib_spec.specs.Tree.{IsTree}
-use Rattle.bib_spec.specs.Reading.{Item, Reading, bytes_of, Reads}
-use Rattle.bib_spec.specs.Records.{Record}
-use Rattle.edit_spec.specs.Edits.{RemoveEntry, MoveEntry, WouldMerge, is_entry, in_line, with_item, remove_entry, move_entry, IsAccepted}
-use Rattle.bib_spec.proofs.Keys.{option_cases}
+use Rattle.edit_spec.proofs.Words.{ℕ, Option, find, ⊎_elim, sym, ap, subst, option_map_or, name_limit, Text, IsTree, Item, Reading, bytes_of, Reads, Record, RemoveEntry, MoveEntry, WouldMerge, is_entry, in_line, with_item, remove_entry, IsAccepted, option_cases}
+use Rattle.edit_spec.specs.Edits.{move_entry}
 use Rattle.edit_spec.proofs.Unrefuted.{unrefuted_texts}
 use Rattle.edit_spec.proofs.EditedItems.{AreTrees, made_reads, trees_of, clean_reads, in_line-is, insert-are, found-is, without_first-are}
 

@@ -1,14 +1,8 @@
 -- One more entry, which no other entry's crossref names.
-use Rattle.std.proofs.Common.{◌≡◌, ◌||◌, ◌≢◌, ℕ, zero, suc, ◌<◌, ◌≤◌, ◌==◌, false, List, [], ◌∷◌, ◌++◌, Option, Some, None, option_map, insert, map, option_and_then, slice_get, length, ⊎_elim, refl, sym, ◌∙◌, ap, ap₂, arith, eqb-true, eq-eqb, zero-lt-suc, suc-le-suc, not-suc-le-zero, le_of_suc-le-suc}
-use Rattle.std.specs.List.{list_any}
-use Rattle.std.specs.Option.{option_map_or}
-use Rattle.std.proofs.lemmas.Bool.{cases_Bool, cond-true, cond-false}
-use Rattle.std.proofs.lemmas.Option.{none-some}
-use Rattle.bib_spec.specs.Text.{Text, folded}
-use Rattle.bib_spec.specs.Records.{EntryTexts, Record, RecordField, crossref_text, keys_of, first_named, entry_named, is_named, target_of, target, other_than, parent, own_fields, missing, unvisited, ancestors, ancestors_from, fields_at, with_inherited, record_of, expanded}
-use Rattle.edit_spec.specs.OtherLaws.{number_with_one_more}
-use Rattle.bib_spec.proofs.Names.{both_true}
-use Rattle.bib_spec.proofs.Keys.{option_cases}
+use Rattle.edit_spec.proofs.Words.{◌≡◌, ◌||◌, ◌≢◌, ℕ, zero, suc, ◌<◌, ◌≤◌, ◌==◌, false, List, ◌∷◌, ◌++◌, Option, Some, None, option_map, insert, map, option_and_then, slice_get, length, ⊎_elim, refl, sym, ◌∙◌, ap, ap₂, arith, eq-eqb, zero-lt-suc, suc-le-suc, not-suc-le-zero, le_of_suc-le-suc}
+use Rattle.edit_spec.proofs.Words.{list_any, option_map_or, cases_Bool, cond-true, cond-false, none-some, Text, folded, EntryTexts, Record, RecordField, crossref_text, keys_of, first_named, entry_named, is_named, target_of, target, other_than, parent, own_fields, missing, unvisited, ancestors}
+use Rattle.edit_spec.proofs.Words.{ancestors_from, fields_at, with_inherited, record_of, expanded, number_with_one_more, both_true, option_cases}
+use Rattle.std.proofs.Common.{[], eqb-true}
 
 -- an element's place is less than the list's length
 pub within : {X : Type 0} (xs : List X) (n : ℕ) (x : X) → slice_get xs n ≡ Some x → n < length xs

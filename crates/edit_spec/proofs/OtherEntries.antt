@@ -1,19 +1,12 @@
 -- Removing an entry and adding one: the two databases have the same entries except for that one.
-use Rattle.std.proofs.Common.{◌≡◌, ◌≢◌, ℕ, zero, suc, ◌≤◌, ◌==◌, true, false, not, List, [], ◌∷◌, ◌++◌, Some, None, option_map, option_and_then, slice_get, insert, length, take, ⊎_elim, refl, sym, ◌∙◌, ap, subst, arith, add-one, zero-le, suc-le-suc, not-suc-le-zero, le_of_suc-le-suc, ne_eqb}
-use Rattle.std.specs.List.{list_any}
-use Rattle.std.proofs.lemmas.Bool.{cases_Bool, cond-true, cond-false, both_ways, and_parts, and_from, and_right, or_parts, false_from_ne_true}
-use Rattle.std.proofs.lemmas.Option.{none-some, same_Some}
-use Rattle.bib_spec.specs.Text.{Text, folded, same}
-use Rattle.bib_spec.specs.Tree.{Tree, Entry, CommentTree, DefinitionTree, PreambleTree, EntryTree}
-use Rattle.bib_spec.specs.Reading.{Item, Reading}
-use Rattle.bib_spec.specs.Texts.{Macros, months, raw_text, macros_after, is_empty, gathered}
-use Rattle.bib_spec.specs.Records.{EntryTexts, texts_of, entry_in, preamble_in, entries_of, preambles_of, crossref_text, keys_of, first_named, entry_named, is_named, target_of, other_than, parent, expanded}
-use Rattle.edit_spec.specs.Edits.{NotFound, Ambiguous, KeyInUse, Referred, BadPosition, holders, without_first, is_entry, remove_entry, add_entry, item_of, entry_of}
-use Rattle.edit_spec.specs.OtherLaws.{number_with_one_more, entries_before, KeepsOthers, remove_entry_keeps_others, is_awaited, add_entry_keeps_others}
-use Rattle.bib_spec.proofs.Names.{same-true, true-same}
-use Rattle.bib_spec.proofs.Places.{IsFirst, first_is, none_is, none_at, suc_some}
-use Rattle.bib_spec.proofs.Keys.{option_cases}
-use Rattle.bib_spec.proofs.Accepted.{there_once, dangling_among}
+use Rattle.edit_spec.proofs.Words.{◌≡◌, ◌≢◌, ℕ, zero, suc, ◌≤◌, ◌==◌, true, false, not, List, ◌∷◌, ◌++◌, Some, None, option_map, option_and_then, slice_get, insert, length, take, ⊎_elim, refl, sym, ◌∙◌, ap, subst, arith, add-one, suc-le-suc, not-suc-le-zero, le_of_suc-le-suc, list_any, cases_Bool}
+use Rattle.edit_spec.proofs.Words.{cond-true, cond-false, both_ways, and_parts, and_from, or_parts, false_from_ne_true, none-some, same_Some, Text, folded, same, Tree, Entry, CommentTree, DefinitionTree, PreambleTree, EntryTree, Item, Reading, Macros, months, raw_text, macros_after, is_empty}
+use Rattle.edit_spec.proofs.Words.{gathered, EntryTexts, texts_of, entry_in, preamble_in, entries_of, preambles_of, crossref_text, keys_of, first_named, entry_named, is_named, target_of, other_than, parent, expanded, NotFound, Ambiguous, KeyInUse, Referred, BadPosition, holders, without_first}
+use Rattle.edit_spec.proofs.Words.{is_entry, remove_entry, add_entry, item_of, entry_of, number_with_one_more, entries_before, is_awaited, same-true, true-same, IsFirst, first_is, none_at, option_cases, there_once, dangling_among}
+use Rattle.std.proofs.Common.{[], zero-le, ne_eqb}
+use Rattle.std.proofs.lemmas.Bool.{and_right}
+use Rattle.edit_spec.specs.OtherLaws.{KeepsOthers, remove_entry_keeps_others, add_entry_keeps_others}
+use Rattle.bib_spec.proofs.Places.{none_is, suc_some}
 use Rattle.edit_spec.proofs.RenameKey.{only}
 use Rattle.edit_spec.proofs.OneMore.{length-keys, slice_get-insert, slice_get-insert_same, length-insert, keys-insert, more_other, parent_more, expanded_more}
 

@@ -1,29 +1,19 @@
 -- RegenerateKeys: the made keys meet the conditions of the law of new keys, they differ, and making them again changes
 -- nothing.
-use Rattle.std.proofs.Common.{◌≡◌, ◌<◌, ℕ, zero, suc, ◌+◌, Bool, true, false, cond, ◌≤◌, List, [], ◌∷◌, ◌++◌, Option, Some, None, is_some, is_none, unwrap_or, option_and_then, slice_get, length, filter_map, map, reverse, ⊎_elim, refl, sym, ◌∙◌, ap, ap₂, subst, arith, add-one, add-zero, zero-add}
-use Rattle.std.specs.List.{list_all, enumerate_from, cons_option, AllByRecursion}
-use Rattle.std.proofs.lemmas.Bool.{cases_Bool, cond-true, cond-false, false≢true, or_parts, and_from, and_parts}
-use Rattle.std.proofs.lemmas.Option.{none-some, same_Some, slice_get_past}
-use Rattle.bib_spec.specs.Bytes.{file_limit}
-use Rattle.bib_spec.specs.Text.{Text, same, is_new_key_byte}
-use Rattle.bib_spec.specs.Tree.{Value, Row, Entry, Tree, CommentTree, DefinitionTree, PreambleTree, EntryTree}
-use Rattle.bib_spec.specs.Reading.{Item, Reading, bytes_of}
-use Rattle.bib_spec.specs.Texts.{months, is_empty, too_long_at}
-use Rattle.bib_spec.specs.Records.{EntryTexts, Record, entries_of, keys_of, crossref, crossref_text, target_of, target, record_of, dangling_text, dangling_texts}
-use Rattle.bib_spec.specs.MadeKeys.{letters, candidate, is_taken, free_key, made_keys, bases, new_keys, IsKeyBase}
-use Rattle.edit_spec.specs.Edits.{row_to, with_value, in_braces, with_crossref, next_number, tree_with_keys, items_with_keys, regenerate_keys, RegenerateKeys, EditFault, BadKey, BadName, BadValue, BadPosition, NotFound, Ambiguous, KeyInUse, NameInUse, Referred, WouldMerge, FileTooLong, TextTooLong, IsAccepted, Refuses}
-use Rattle.edit_spec.specs.Laws.{record_with_key, AllDiffer, regenerate_keys_keeps, made_keys_differ, regenerating_again_changes_nothing}
-use Rattle.bib_spec.proofs.Names.{same_comm}
-use Rattle.bib_spec.proofs.Keys.{option_cases, keys_with, key_before}
+use Rattle.edit_spec.proofs.Words.{◌≡◌, ◌<◌, ℕ, zero, suc, ◌+◌, Bool, true, false, cond, ◌≤◌, List, ◌∷◌, ◌++◌, Option, Some, None, is_some, is_none, unwrap_or, option_and_then, slice_get, length, filter_map, map, reverse, ⊎_elim, refl, sym, ◌∙◌, ap, ap₂, subst, arith, add-one, add-zero, zero-add}
+use Rattle.edit_spec.proofs.Words.{list_all, enumerate_from, cons_option, AllByRecursion, cases_Bool, cond-true, cond-false, false≢true, or_parts, and_from, and_parts, none-some, same_Some, file_limit, Text, same, is_new_key_byte, Value, Row, Entry, Tree, CommentTree, DefinitionTree, PreambleTree}
+use Rattle.edit_spec.proofs.Words.{EntryTree, Item, Reading, bytes_of, months, is_empty, too_long_at, EntryTexts, Record, entries_of, keys_of, crossref, crossref_text, target_of, target, record_of, dangling_text, dangling_texts, letters, candidate, is_taken, free_key, made_keys, bases, new_keys}
+use Rattle.edit_spec.proofs.Words.{IsKeyBase, row_to, with_value, in_braces, with_crossref, next_number, tree_with_keys, items_with_keys, regenerate_keys, RegenerateKeys, BadKey, BadName, BadValue, BadPosition, NotFound, Ambiguous, KeyInUse, NameInUse, Referred, WouldMerge, FileTooLong, TextTooLong}
+use Rattle.edit_spec.proofs.Words.{IsAccepted, Refuses, record_with_key, same_comm, option_cases, keys_with, key_before, dangling_among, free_key_free, lower_letters, new_key_byte-lower, reverse-cons}
+use Rattle.std.proofs.Common.{[]}
+use Rattle.std.proofs.lemmas.Option.{slice_get_past}
+use Rattle.edit_spec.specs.Edits.{EditFault}
+use Rattle.edit_spec.specs.Laws.{AllDiffer, regenerate_keys_keeps, made_keys_differ, regenerating_again_changes_nothing}
 use Rattle.edit_spec.proofs.Fields.{crossref_to}
 use Rattle.edit_spec.proofs.Rekeyed.{entry_with, entries_with, entries_rekeyed, keys-entries_with, CanRekey, rekeyed, target_of_kept, target_kept, record_kept}
 use Rattle.edit_spec.proofs.CitedLists.{rekeying_keeps}
 use Rattle.edit_spec.proofs.RenameKey.{field_text-key, new_key_parts}
-use Rattle.bib_spec.proofs.Accepted.{dangling_among}
 use Rattle.edit_spec.proofs.OneMore.{length-keys}
-use Rattle.bib_spec.proofs.FreeKeys.{free_key_free, lower_letters}
-use Rattle.bib_spec.proofs.NewKeyBytes.{new_key_byte-lower}
-use mathlib.Core.List.{reverse-cons}
 
 slice_get_none : {X : Type 0} (xs : List X) (n : ℕ) → slice_get xs n ≡ None → length xs ≤ n
 slice_get_none [] n e = omega arith

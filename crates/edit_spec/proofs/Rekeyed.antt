@@ -1,15 +1,9 @@
 -- The entries of a database in which some entries get new keys.
-use Rattle.std.proofs.Common.{◌≡◌, ℕ, zero, suc, ◌+◌, false, List, [], ◌∷◌, ◌++◌, Option, Some, None, unwrap_or, option_map, option_and_then, slice_get, length, ⊎_elim, refl, sym, ◌∙◌, ap, ap₂, find, arith, add-zero, zero-add}
-use Rattle.std.specs.Option.{option_map_or}
-use Rattle.std.proofs.Math.Path.{fun_ext}
-use Rattle.bib_spec.specs.Text.{Text, folded, same}
-use Rattle.bib_spec.specs.Tree.{Tree, CommentTree, DefinitionTree, PreambleTree, EntryTree}
-use Rattle.bib_spec.specs.Reading.{Item}
-use Rattle.bib_spec.specs.Texts.{Macros, raw_text, macros_after, macros_at, gathered, field_text}
-use Rattle.bib_spec.specs.Records.{Field, EntryTexts, Record, RecordField, entry_in, preamble_in, crossref, has_name, crossref_text, keys_of, first_named, target_of, target, other_than, parent, own_fields, missing, ancestors, ancestors_from, fields_at, with_inherited, record_of, expanded}
-use Rattle.edit_spec.specs.Edits.{next_number, tree_with_keys, items_with_keys}
-use Rattle.edit_spec.specs.Laws.{record_with_key}
-use Rattle.bib_spec.proofs.Keys.{option_cases, keys_with, AreFresh, first_kept, first_new, first_none}
+use Rattle.edit_spec.proofs.Words.{◌≡◌, ℕ, zero, suc, ◌+◌, false, List, ◌∷◌, ◌++◌, Option, Some, None, unwrap_or, option_map, option_and_then, slice_get, length, ⊎_elim, refl, sym, ◌∙◌, ap, ap₂, find, arith, add-zero, zero-add, option_map_or, fun_ext, Text, folded, same, Tree, CommentTree}
+use Rattle.edit_spec.proofs.Words.{DefinitionTree, PreambleTree, EntryTree, Item, Macros, raw_text, macros_after, macros_at, gathered, field_text, Field, EntryTexts, Record, RecordField, entry_in, preamble_in, crossref, has_name, crossref_text, keys_of, first_named, target_of, target, other_than}
+use Rattle.edit_spec.proofs.Words.{parent, own_fields, missing, ancestors, ancestors_from, fields_at, with_inherited, record_of, expanded, next_number, tree_with_keys, items_with_keys, record_with_key, option_cases, keys_with, first_kept, first_new}
+use Rattle.std.proofs.Common.{[]}
+use Rattle.bib_spec.proofs.Keys.{AreFresh, first_none}
 use Rattle.edit_spec.proofs.Fields.{crossref_to, crossref_to-map, text-with_text, own_fields-crossref_to}
 
 -- an entry's texts after the edit, and the texts of all entries after it

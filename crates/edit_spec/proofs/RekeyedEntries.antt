@@ -1,14 +1,9 @@
 -- RenameKey and RegenerateKeys: an entry with a new key, and with a new key as its crossref, is an entry of the grammar.
-use Rattle.std.proofs.Common.{◌≡◌, ◌==◌, ℕ, true, List, [], ◌∷◌, Option, Some, None, unwrap_or, option_and_then, All, ⊎_elim, refl, sym, subst}
-use Rattle.std.proofs.lemmas.Bool.{cases_Bool, cond-true, cond-false, and_parts}
-use Rattle.std.proofs.lemmas.Option.{none-some, cond_some}
-use Rattle.std.proofs.lemmas.List.Elements.{All-nil, All-cons, All-head, All-tail}
-use Rattle.bib_spec.specs.Bytes.{name_limit}
-use Rattle.bib_spec.specs.Text.{Text, same, is_new_key}
-use Rattle.bib_spec.specs.Tree.{Value, Row, Delimiter, Entry, Tree, CommentTree, DefinitionTree, PreambleTree, EntryTree, is_comment, IsSpace, IsValue, IsRow, IsEntry, IsTree}
-use Rattle.bib_spec.specs.Reading.{Item, Reading, bytes_of, IsItem, Reads}
-use Rattle.bib_spec.specs.Records.{EntryTexts, Record, entries_of, entry_named, target, crossref}
-use Rattle.edit_spec.specs.Edits.{RenameKey, row_to, in_braces, with_value, with_crossref, next_number, tree_with_keys, items_with_keys, with_keys, key_for, rename_key, IsAccepted}
+use Rattle.edit_spec.proofs.Words.{◌≡◌, ◌==◌, ℕ, true, List, ◌∷◌, Option, Some, None, unwrap_or, option_and_then, All, ⊎_elim, refl, sym, subst, cases_Bool, cond-true, cond-false, and_parts, none-some, cond_some, All-nil, All-cons, All-head, All-tail, name_limit, Text, same, is_new_key, Value, Row}
+use Rattle.edit_spec.proofs.Words.{Delimiter, Entry, Tree, CommentTree, DefinitionTree, PreambleTree, EntryTree, is_comment, IsSpace, IsValue, IsRow, IsEntry, IsTree, Item, Reading, bytes_of, IsItem, Reads, EntryTexts, Record, entries_of, entry_named, target, crossref, RenameKey, row_to, in_braces}
+use Rattle.edit_spec.proofs.Words.{with_value, with_crossref, next_number, tree_with_keys, items_with_keys, with_keys, key_for, IsAccepted}
+use Rattle.std.proofs.Common.{[]}
+use Rattle.edit_spec.specs.Edits.{rename_key}
 use Rattle.edit_spec.proofs.RenameKey.{new_key_parts}
 use Rattle.edit_spec.proofs.Unrefuted.{given_keys-are}
 use Rattle.edit_spec.proofs.WrittenRows.{EndsKey, ends_at_row, are_rows, row_with_value, not_empty, entry-is, new_key-goes_on, new_key-length, new_key-in_braces}

@@ -1,21 +1,11 @@
 -- RenameKey: the new key meets the conditions of the law of new keys.
-use Rattle.std.proofs.Common.{◌≡◌, ◌≢◌, ℕ, zero, suc, Bool, true, false, not, ◌&&◌, ◌||◌, ◌==◌, nat_lt, nat_le, List, [], ◌∷◌, Some, None, unwrap_or, option_map, slice_get, length, ⊎_elim, refl, sym, ◌∙◌, ap, ap₂, count_by, filter, eqb-true, ne_eqb, arith}
-use Rattle.std.specs.List.{list_any, list_all, join_with_byte}
-use Rattle.std.proofs.lemmas.Bool.{cases_Bool, cond-true, cond-false, false_from_ne_true, true_from_ne_false, both_ways, and_parts, and_cases, or_parts, not-false}
-use Rattle.std.proofs.lemmas.Option.{same_Some, none-some, cond_some}
-use Rattle.bib_spec.specs.Bytes.{name_limit}
-use Rattle.bib_spec.specs.Text.{Text, same, is_space, is_new_key_byte, is_new_key}
-use Rattle.bib_spec.specs.Reading.{Reading}
-use Rattle.bib_spec.specs.Texts.{is_empty, onto_first, words, field_text}
-use Rattle.bib_spec.specs.Records.{EntryTexts, Record, entries_of, keys_of, first_named, is_named, dangling_texts}
-use Rattle.edit_spec.specs.Edits.{BadKey, NotFound, Ambiguous, KeyInUse, RenameKey, IsAccepted, key_for}
+use Rattle.edit_spec.proofs.Words.{◌≡◌, ◌≢◌, ℕ, zero, suc, Bool, true, false, not, ◌&&◌, ◌||◌, ◌==◌, nat_lt, nat_le, List, ◌∷◌, Some, None, unwrap_or, option_map, slice_get, length, ⊎_elim, refl, sym, ◌∙◌, ap, ap₂, count_by, filter, arith, list_any, list_all, cases_Bool, cond-true, cond-false}
+use Rattle.edit_spec.proofs.Words.{false_from_ne_true, true_from_ne_false, both_ways, and_parts, and_cases, or_parts, not-false, same_Some, none-some, cond_some, name_limit, Text, same, is_space, is_new_key_byte, is_new_key, Reading, is_empty, field_text, EntryTexts, Record, entries_of, keys_of}
+use Rattle.edit_spec.proofs.Words.{first_named, is_named, dangling_texts, BadKey, NotFound, Ambiguous, KeyInUse, RenameKey, IsAccepted, key_for, same_comm, there_once, dangling_among, count-yes, count-no, none_at, keys_with, key_before, new_key_byte-plain}
+use Rattle.std.proofs.Common.{[], eqb-true, ne_eqb}
+use Rattle.std.specs.List.{join_with_byte}
+use Rattle.bib_spec.specs.Texts.{onto_first, words}
 use Rattle.edit_spec.specs.Laws.{rename_key_keeps}
-use Rattle.bib_spec.proofs.Names.{same_comm}
-use Rattle.bib_spec.proofs.Accepted.{there_once, dangling_among}
-use Rattle.bib_spec.proofs.Counts.{count-yes, count-no}
-use Rattle.bib_spec.proofs.Places.{none_at}
-use Rattle.bib_spec.proofs.Keys.{keys_with, key_before}
-use Rattle.bib_spec.proofs.NewKeyBytes.{new_key_byte-plain}
 use Rattle.edit_spec.proofs.Rekeyed.{CanRekey}
 use Rattle.edit_spec.proofs.CitedLists.{rekeying_keeps}
 

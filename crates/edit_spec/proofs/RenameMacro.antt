@@ -1,15 +1,8 @@
 -- RenameMacro: every text is unchanged, and after the definition the new name stands for what the old name stood for.
-use Rattle.std.proofs.Common.{◌≡◌, ℕ, zero, suc, true, false, cond, ◌||◌, List, [], ◌∷◌, ◌++◌, Option, Some, None, unwrap_or, ⊎_elim, refl, sym, ◌∙◌, ap, ap₂}
-use Rattle.std.specs.Str.{bytes_eq}
-use Rattle.std.proofs.lemmas.Bool.{cases_Bool, cond-true, cond-false, cond_both, false_from_ne_true, false≢true, both_ways, or_parts, or_cases}
-use Rattle.bib_spec.specs.Text.{Text, folded, same}
-use Rattle.bib_spec.specs.Tree.{Part, Braced, Quoted, Digits, Macro, Tree, CommentTree, DefinitionTree, PreambleTree, EntryTree}
-use Rattle.bib_spec.specs.Reading.{Item}
-use Rattle.bib_spec.specs.Texts.{Macros, updated, part_text, macros_after, macros_at, gathered}
-use Rattle.bib_spec.specs.Records.{entry_in, preamble_in}
-use Rattle.edit_spec.specs.Edits.{changed, tree_with, items_with, defines, from_first, name_renamed, use_renamed}
-use Rattle.edit_spec.specs.Laws.{is_after}
-use Rattle.bib_spec.proofs.Names.{same-is, same-true, true-same}
+use Rattle.edit_spec.proofs.Words.{◌≡◌, ℕ, zero, suc, true, false, cond, ◌||◌, List, ◌∷◌, ◌++◌, Option, Some, None, unwrap_or, ⊎_elim, refl, sym, ◌∙◌, ap, ap₂, bytes_eq, cases_Bool, cond-true, cond-false, cond_both, false_from_ne_true, false≢true, both_ways, or_parts, or_cases, Text, folded, same}
+use Rattle.edit_spec.proofs.Words.{Part, Braced, Quoted, Digits, Macro, Tree, CommentTree, DefinitionTree, PreambleTree, EntryTree, Item, Macros, updated, part_text, macros_after, macros_at, gathered, entry_in, preamble_in, changed, tree_with, items_with, defines, from_first, name_renamed}
+use Rattle.edit_spec.proofs.Words.{use_renamed, is_after, same-is, same-true, true-same}
+use Rattle.std.proofs.Common.{[]}
 use Rattle.edit_spec.proofs.Simulation.{InTree, InItems, AgreeOn, names_stay, define_same, entry_same, preamble_same, gathered_same, at_same}
 
 module _ (from to : Text) where

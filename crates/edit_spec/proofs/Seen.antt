@@ -1,15 +1,8 @@
 -- What a name stands for: its last definition, or else a month.
-use Rattle.std.proofs.Common.{◌≡◌, ℕ, zero, suc, ◌<◌, true, false, List, [], ◌∷◌, Some, slice_get, refl, sym, ◌∙◌, ap, suc-le-suc, zero-lt-suc, le_of_suc-le-suc, not-suc-le-zero}
-use Rattle.std.specs.Str.{bytes_eq}
-use Rattle.std.proofs.lemmas.Bool.{cond-true, cond-false, or_parts, or_from}
-use Rattle.std.proofs.lemmas.Option.{none-some, same_Some}
-use Rattle.bib_spec.specs.Text.{Text, folded, same}
-use Rattle.bib_spec.specs.Tree.{Definition, Tree, CommentTree, DefinitionTree, PreambleTree, EntryTree}
-use Rattle.bib_spec.specs.Reading.{Item}
-use Rattle.bib_spec.specs.Texts.{Macros, months, raw_text, macros_in, macros_after, macros_at}
-use Rattle.edit_spec.specs.Edits.{defines}
-use Rattle.edit_spec.specs.Laws.{is_after, sees_last_definition, sees_months}
-use Rattle.bib_spec.proofs.Names.{same-is, same_comm}
+use Rattle.edit_spec.proofs.Words.{◌≡◌, ℕ, zero, suc, ◌<◌, true, false, List, ◌∷◌, Some, slice_get, refl, sym, ◌∙◌, ap, suc-le-suc, zero-lt-suc, le_of_suc-le-suc, not-suc-le-zero, bytes_eq, cond-true, cond-false, or_parts, or_from, none-some, same_Some, Text, folded, same, Definition, Tree}
+use Rattle.edit_spec.proofs.Words.{CommentTree, DefinitionTree, PreambleTree, EntryTree, Item, Macros, months, raw_text, macros_in, macros_after, macros_at, defines, is_after, same-is, same_comm}
+use Rattle.std.proofs.Common.{[]}
+use Rattle.edit_spec.specs.Laws.{sees_last_definition, sees_months}
 
 module _ (name : Text) where
   after_other : (m : Macros) (tree : Tree) → defines name tree ≡ false → macros_after m tree (folded name) ≡ m (folded name)

@@ -1,13 +1,8 @@
 -- SetField: the entry with its field set is an entry.
-use Rattle.std.proofs.Common.{◌≡◌, true, List, [], ◌∷◌, Option, All, ⊎_elim, sym, subst}
-use Rattle.std.proofs.lemmas.Bool.{cases_Bool, cond-true, cond-false, and_parts}
-use Rattle.std.proofs.lemmas.List.Elements.{All-nil, All-cons, All-head, All-tail}
-use Rattle.bib_spec.specs.Bytes.{name_limit}
-use Rattle.bib_spec.specs.Text.{Text, same, is_name}
-use Rattle.bib_spec.specs.Tree.{Value, Row, Delimiter, Entry, IsSpace, IsValue, IsRow, IsEntry}
-use Rattle.bib_spec.specs.Reading.{Reading, bytes_of, IsItem, Reads}
-use Rattle.bib_spec.specs.Records.{Record, is_named}
-use Rattle.edit_spec.specs.Edits.{SetField, is_entry, with_first_tree, of_entry, new_row, row_to, row_before, with_field, entry_with_field, set_field, IsAccepted}
+use Rattle.edit_spec.proofs.Words.{◌≡◌, true, List, ◌∷◌, Option, All, ⊎_elim, sym, subst, cases_Bool, cond-true, cond-false, and_parts, All-nil, All-cons, All-head, All-tail, name_limit, Text, same, is_name, Value, Row, Delimiter, Entry, IsSpace, IsValue, IsRow, IsEntry, Reading, bytes_of, IsItem}
+use Rattle.edit_spec.proofs.Words.{Reads, Record, is_named, SetField, is_entry, with_first_tree, of_entry, new_row, row_to, row_before, with_field, entry_with_field, IsAccepted}
+use Rattle.std.proofs.Common.{[]}
+use Rattle.edit_spec.specs.Edits.{set_field}
 use Rattle.edit_spec.proofs.Unrefuted.{given_names-are, given_values-are}
 use Rattle.edit_spec.proofs.WrittenRows.{no_space, EndsKey, ends_at_row, AreRows, are_rows, row_with_value, row_before_space, new_row-is, not_empty, entry-is}
 use Rattle.edit_spec.proofs.EditedItems.{made_reads, item_as, from_first-are, named_not_empty, comment-of_entry, of_entry-is}

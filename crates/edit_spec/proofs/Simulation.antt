@@ -1,16 +1,8 @@
 -- Two tables of macros that give the same to each part, as an edit writes it, give the same texts all along the items.
-use Rattle.std.proofs.Common.{◌≡◌, ℕ, zero, suc, false, cond, List, [], ◌∷◌, ◌++◌, Option, Some, None, refl, sym, ◌∙◌, ap, ap₂, subst, map}
-use Rattle.std.specs.List.{AllByRecursion}
-use Rattle.std.specs.Str.{bytes_eq}
-use Rattle.std.proofs.lemmas.Bool.{cond-false}
-use Rattle.bib_spec.specs.Text.{Text, folded, same}
-use Rattle.bib_spec.specs.Tree.{Part, Link, Value, Row, Definition, Tree, CommentTree, DefinitionTree, PreambleTree, EntryTree}
-use Rattle.bib_spec.specs.Reading.{Item}
-use Rattle.bib_spec.specs.Texts.{Macros, updated, parts_of, part_text, raw_text, values_of, macros_in, macros_after, macros_at, gathered}
-use Rattle.bib_spec.specs.Records.{Field, EntryTexts, field_of, entry_in, preamble_in}
-use Rattle.bib_spec.proofs.Names.{same-is, same_comm}
-use Rattle.edit_spec.specs.Edits.{changed, link_with, value_with, row_with, tree_with, items_with}
-use Rattle.std.specs.List.{flat_map}
+use Rattle.edit_spec.proofs.Words.{◌≡◌, ℕ, zero, suc, false, cond, List, ◌∷◌, ◌++◌, Option, Some, None, refl, sym, ◌∙◌, ap, ap₂, subst, map, AllByRecursion, bytes_eq, cond-false, Text, folded, same, Part, Link, Value, Row, Definition, Tree, CommentTree, DefinitionTree, PreambleTree, EntryTree, Item}
+use Rattle.edit_spec.proofs.Words.{Macros, updated, parts_of, part_text, raw_text, macros_in, macros_after, macros_at, gathered, Field, EntryTexts, field_of, entry_in, preamble_in, same-is, same_comm, changed, link_with, value_with, row_with, tree_with, items_with, flat_map}
+use Rattle.std.proofs.Common.{[]}
+use Rattle.bib_spec.specs.Texts.{values_of}
 
 -- P of each part, and Q of each defined name
 abbrev pub Parts : (Part → Type 0) → Value → Type 0

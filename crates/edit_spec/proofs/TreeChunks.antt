@@ -1,16 +1,12 @@
 -- The chunks of trees and items, read before an edit and afterwards.
-use Rattle.std.proofs.Common.{◌≡◌, Bool, true, false, List, [], ◌∷◌, ◌++◌, Option, Some, None, option_map, unwrap_or, refl, sym, ◌∙◌, ap, ap₂, append_assoc, append-nil, map}
+use Rattle.edit_spec.proofs.Words.{◌≡◌, Bool, true, false, List, ◌∷◌, ◌++◌, Option, Some, None, option_map, unwrap_or, refl, sym, ◌∙◌, ap, ap₂, append_assoc, append-nil, map, flat_map, flat_map-append, comma, Text, Part, Link, Value, Assignment, Row, Definition, Preamble, Entry, Tree, CommentTree}
+use Rattle.edit_spec.proofs.Words.{DefinitionTree, PreambleTree, EntryTree, value_bytes, row_bytes, close_byte, last_comma_bytes, tree_bytes, Item, item_bytes, row_start, Chunk, Kept, Replaced, changed, tree_with, items_with, token, entry_chunks, items_chunks, kept_items, kept_rows}
+use Rattle.std.proofs.Common.{[]}
 use Rattle.std.specs.Prelude.{if◌then◌else◌}
-use Rattle.std.specs.List.{flat_map}
-use Rattle.std.proofs.lemmas.List.Concat.{flat_map-append}
-use Rattle.bib_spec.specs.Bytes.{hash, comma, equals_sign}
-use Rattle.bib_spec.specs.Text.{Text}
-use Rattle.bib_spec.specs.Tree.{Part, Link, Value, Assignment, Row, Definition, Preamble, Entry, Tree, CommentTree, DefinitionTree, PreambleTree, EntryTree, part_bytes, link_bytes, value_bytes, assignment_bytes, row_bytes, close_byte, head_bytes, opening_bytes, last_comma_bytes, entry_bytes, tree_bytes}
-use Rattle.bib_spec.specs.Reading.{Item, item_bytes}
-use Rattle.bib_spec.specs.Texts.{row_start}
-use Rattle.bib_spec.specs.Pieces.{Chunk, Kept, Replaced, old_of, new_of}
-use Rattle.edit_spec.specs.Edits.{changed, tree_with, items_with}
-use Rattle.edit_spec.specs.EditChunks.{token, part_token, link_chunks, value_chunks, assignment_chunks, row_chunks, after_rows, entry_chunks, tree_chunks, item_chunks, items_chunks, kept_items, kept_rows}
+use Rattle.bib_spec.specs.Bytes.{hash, equals_sign}
+use Rattle.bib_spec.specs.Tree.{part_bytes, link_bytes, assignment_bytes, head_bytes, opening_bytes, entry_bytes}
+use Rattle.bib_spec.specs.Pieces.{old_of, new_of}
+use Rattle.edit_spec.specs.EditChunks.{part_token, link_chunks, value_chunks, assignment_chunks, row_chunks, after_rows, tree_chunks, item_chunks}
 
 -- a chunk's bytes, before or afterwards
 abbrev pub chunk_text : Bool → Chunk → Text

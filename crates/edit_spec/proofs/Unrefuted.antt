@@ -1,15 +1,9 @@
 -- If a refusal does not apply, what it denies holds: values and clean texts that are not refuted are values and clean
 -- texts.
-use Rattle.std.proofs.Common.{◌≡◌, ℕ, ◌<◌, ◌≤◌, ◌==◌, nat_lt, nat_le, Bool, true, false, ◌&&◌, length, All, ⊎_elim, arith}
-use Rattle.std.specs.List.{list_all}
-use Rattle.std.proofs.lemmas.Bool.{cases_Bool, both_ways, and_parts, true_from_ne_false, leb-true, leb-false, ltb-true, ltb-false, eqb-true, eqb-false}
-use Rattle.bib_spec.specs.Bytes.{name_limit, file_limit}
-use Rattle.bib_spec.specs.Text.{Text, is_name, is_new_key, IsBalanced, opened_before, closed_before}
-use Rattle.bib_spec.specs.Clean.{IsClean, IsCleanTrail}
-use Rattle.bib_spec.specs.Tree.{Part, Braced, Quoted, Digits, Macro, Link, Value, is_type, IsSpace, IsPart, IsLink, IsValue}
-use Rattle.bib_spec.specs.Reading.{Reading, bytes_of}
-use Rattle.bib_spec.specs.Records.{Record}
-use Rattle.edit_spec.specs.Edits.{Edit, BadKey, BadName, BadValue, FileTooLong, given_keys, given_names, given_types, given_values, HasCleanTexts, edited, IsAccepted}
+use Rattle.edit_spec.proofs.Words.{◌≡◌, ℕ, ◌<◌, ◌≤◌, ◌==◌, nat_lt, nat_le, Bool, true, false, ◌&&◌, length, All, ⊎_elim, arith, list_all, cases_Bool, both_ways, and_parts, true_from_ne_false, leb-true, ltb-false, eqb-false, name_limit, file_limit, Text, is_name, is_new_key, IsBalanced}
+use Rattle.edit_spec.proofs.Words.{opened_before, closed_before, IsClean, IsCleanTrail, Part, Braced, Quoted, Digits, Macro, Link, Value, is_type, IsSpace, IsPart, IsLink, IsValue, Reading, bytes_of, Record, Edit, BadKey, BadName, BadValue, FileTooLong, HasCleanTexts, edited, IsAccepted}
+use Rattle.std.proofs.lemmas.Bool.{leb-false, ltb-true, eqb-true}
+use Rattle.edit_spec.specs.Edits.{given_keys, given_names, given_types, given_values}
 
 unrefuted_true : (b : Bool) → ((b ≡ true → ⊥) → ⊥) → b ≡ true
 unrefuted_true b h = true_from_ne_false b (λ e. h (λ t. both_ways b e t))

@@ -1,15 +1,11 @@
 -- What an edit writes has the grammar's form: white space, rows, and the bytes after a key.
-use Rattle.std.proofs.Common.{◌≡◌, ℕ, ◌≤◌, ◌==◌, nat_lt, nat_le, true, false, not, ◌||◌, ◌&&◌, List, [], ◌∷◌, ◌++◌, Option, Some, None, length, codes, All, refl, sym, ap, true≢false, ne_eqb, arith}
-use Rattle.std.specs.List.{flat_map, list_any, list_all, AllPass, AllByRecursion}
-use Rattle.std.specs.Str.{bytes_eq}
-use Rattle.std.proofs.lemmas.Bool.{both_ways, and_parts, or_parts, or_from, eqb-false, leb-true, not_from_false, not-true}
-use Rattle.std.proofs.lemmas.List.Elements.{All-from_recursion, All-nil, All-cons, All-head}
-use Rattle.bib_spec.specs.Bytes.{name_limit, delete, comma, close_paren, open_brace, close_brace}
-use Rattle.bib_spec.specs.Text.{Text, is_space, is_name, is_new_key, is_new_key_byte, does_not_begin_with}
-use Rattle.bib_spec.specs.Tree.{Value, Row, Delimiter, Brace, Paren, Entry, row_bytes, last_comma_bytes, close_byte, goes_on_key, IsSpace, IsValue, IsRow, IsEntry}
-use Rattle.bib_spec.specs.Texts.{is_empty}
-use Rattle.bib_spec.proofs.NewKeyBytes.{new_key_byte-plain}
-use Rattle.edit_spec.specs.Edits.{new_row, row_to, row_before, in_braces}
+use Rattle.edit_spec.proofs.Words.{◌≡◌, ℕ, ◌≤◌, ◌==◌, nat_lt, nat_le, true, false, not, ◌||◌, ◌&&◌, List, ◌∷◌, ◌++◌, Option, Some, None, length, codes, All, refl, sym, ap, arith, flat_map, list_any, list_all, AllPass, AllByRecursion, bytes_eq, both_ways, and_parts, or_parts, or_from, eqb-false}
+use Rattle.edit_spec.proofs.Words.{leb-true, not_from_false, not-true, All-nil, All-cons, All-head, name_limit, comma, open_brace, close_brace, Text, is_space, is_name, is_new_key, is_new_key_byte, does_not_begin_with, Value, Row, Delimiter, Brace, Entry, row_bytes, last_comma_bytes, close_byte}
+use Rattle.edit_spec.proofs.Words.{IsSpace, IsValue, IsRow, IsEntry, is_empty, new_key_byte-plain, new_row, row_to, row_before, in_braces}
+use Rattle.std.proofs.Common.{[], true≢false, ne_eqb}
+use Rattle.std.proofs.lemmas.List.Elements.{All-from_recursion}
+use Rattle.bib_spec.specs.Bytes.{delete, close_paren}
+use Rattle.bib_spec.specs.Tree.{Paren, goes_on_key}
 use Rattle.edit_spec.proofs.Balanced.{unbraced_balanced}
 use Rattle.edit_spec.proofs.RenameKey.{new_key_parts}
 

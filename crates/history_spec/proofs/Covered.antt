@@ -1,12 +1,8 @@
 -- What a group covers of the text in the middle, and its pieces there.
-use Rattle.std.proofs.Common.{⊎_elim, ◌≡◌, ℕ, ◌+◌, ◌-◌, ◌<◌, ◌≤◌, nat_le, List, [], ◌∷◌, ◌++◌, length, take, drop, sym, subst, ◌∙◌, ap, ap₂, arith, append_assoc, append-nil, length-append, length-drop}
-use Rattle.std.proofs.lemmas.Bool.{cases_Bool, leb-true, leb-false}
-use Rattle.std.proofs.lemmas.List.{drop_all, drop-drop, drop-take, take-take}
-use Rattle.std.specs.List.{AllByRecursion, between}
-use Rattle.bib_spec.specs.Text.{Text}
-use Rattle.bib_spec.specs.Pieces.{Piece, end_of, Stands, AscendFrom, BeginFrom, EndBy}
-use Rattle.bib_spec.proofs.PieceLemmas.{length-between, between-split}
-use Rattle.history_spec.specs.Shifting.{moved_back, all_moved_back, FitAfter}
+use Rattle.history_spec.proofs.Words.{⊎_elim, ◌≡◌, ℕ, ◌+◌, ◌-◌, ◌<◌, ◌≤◌, nat_le, List, [], ◌∷◌, ◌++◌, length, take, drop, sym, subst, ◌∙◌, ap, ap₂, arith, append_assoc, append-nil, length-append, length-drop, cases_Bool, leb-true, leb-false, drop_all, drop-drop, AllByRecursion, between, Text}
+use Rattle.history_spec.proofs.Words.{Piece, end_of, Stands, AscendFrom, BeginFrom, EndBy, length-between, moved_back, all_moved_back, FitAfter}
+use Rattle.std.proofs.lemmas.List.{drop-take, take-take}
+use Rattle.bib_spec.proofs.PieceLemmas.{between-split}
 use Rattle.history_spec.proofs.Ordered.{ascend_earlier}
 
 -- ---- the bytes

@@ -1,16 +1,13 @@
 -- The composed pieces lead from the text that the pieces back make of the text in the middle to the text that the pieces on
 -- make.
-use Rattle.std.proofs.Common.{◌≡◌, ℕ, ◌+◌, ◌-◌, ◌≤◌, List, [], ◌∷◌, ◌++◌, length, take, drop, refl, sym, subst, ◌∙◌, ap, ap₂, arith, append-nil}
+use Rattle.history_spec.proofs.Words.{◌≡◌, ℕ, ◌+◌, ◌-◌, ◌≤◌, List, [], ◌∷◌, ◌++◌, length, take, drop, refl, sym, subst, ◌∙◌, ap, ap₂, arith, append-nil, between, flat_map, Text, Piece, Fit, applied_from, applied, reversed, BeginFrom, length-between, applied_from-begin, fit_back, applied-reversed}
+use Rattle.history_spec.proofs.Words.{all_moved_back, in_order, Group, group_end, groups, group_old, group_new, composed_from, composed}
 use Rattle.std.proofs.lemmas.List.{length-take-le}
-use Rattle.std.specs.List.{between, flat_map}
 use Rattle.std.proofs.Math.Seq.{take-add}
-use Rattle.bib_spec.specs.Text.{Text}
-use Rattle.bib_spec.specs.Pieces.{Piece, Fit, applied_from, applied, reversed, BeginFrom, Chunk, Kept, Replaced, old_of, new_of, pieces_from, pieces_of_chunks}
-use Rattle.bib_spec.proofs.PieceLemmas.{length-between, begin_earlier, applied_from-begin, applied_from-append}
+use Rattle.bib_spec.specs.Pieces.{Chunk, Kept, Replaced, old_of, new_of, pieces_from, pieces_of_chunks}
+use Rattle.bib_spec.proofs.PieceLemmas.{begin_earlier, applied_from-append}
 use Rattle.bib_spec.proofs.Chunks.{chunks-fit, chunks-lead}
-use Rattle.bib_spec.proofs.WayBack.{fit_back, applied-reversed}
-use Rattle.history_spec.specs.Shifting.{all_moved_back}
-use Rattle.history_spec.specs.Composing.{in_order, Group, group_end, groups, group_old, group_new, composed_from, composed, composed_pieces_fit, composed_pieces_lead}
+use Rattle.history_spec.specs.Composing.{composed_pieces_fit, composed_pieces_lead}
 use Rattle.history_spec.proofs.Shifts.{applied-from_after}
 use Rattle.history_spec.proofs.Covered.{Covers, SideFits}
 use Rattle.history_spec.proofs.Grouped.{AreGroups, are_groups, groups_backs, groups_ons}

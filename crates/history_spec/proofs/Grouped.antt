@@ -1,10 +1,6 @@
 -- Groups of members in order: each covers bytes of the text in the middle, and its pieces fit there.
-use Rattle.std.proofs.Common.{⊎_elim, ◌≡◌, ℕ, ◌+◌, ◌-◌, ◌<◌, ◌≤◌, nat_le, List, [], ◌∷◌, ◌++◌, length, take, drop, refl, sym, subst, ◌∙◌, ap, arith, append_assoc, length-append}
-use Rattle.std.proofs.lemmas.Bool.{cases_Bool, cond-true, cond-false, leb-true, leb-false}
-use Rattle.std.specs.List.{AllByRecursion, flat_map}
-use Rattle.bib_spec.specs.Text.{Text}
-use Rattle.bib_spec.specs.Pieces.{Piece, end_of, Stands, Fit}
-use Rattle.history_spec.specs.Composing.{Member, Back, On, piece_of, in_order, Group, group_end, covered_with, with_member, begun_at, alone, groups_from, groups}
+use Rattle.history_spec.proofs.Words.{⊎_elim, ◌≡◌, ℕ, ◌+◌, ◌-◌, ◌<◌, ◌≤◌, nat_le, List, [], ◌∷◌, ◌++◌, length, take, drop, refl, sym, subst, ◌∙◌, ap, arith, append_assoc, length-append, cases_Bool, cond-true, cond-false, leb-true, leb-false, AllByRecursion, flat_map, Text, Piece, end_of, Stands}
+use Rattle.history_spec.proofs.Words.{Fit, Member, Back, On, piece_of, in_order, Group, group_end, covered_with, with_member, begun_at, alone, groups_from, groups}
 use Rattle.history_spec.proofs.Ordered.{backs_of, ons_of, backs_of-order, ons_of-order, OrderedFrom, order_ascends, backs_begin, ons_begin, ordered_earlier}
 use Rattle.history_spec.proofs.Covered.{Covers, CoversMore, covers_more, SideFits, SideGrows, side_earlier, side_fits, side_takes, side_waits, side_begins}
 

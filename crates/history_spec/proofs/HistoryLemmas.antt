@@ -1,7 +1,7 @@
 -- Edits, undos and redos, one after another.
-use Rattle.std.proofs.Common.{◌≡◌, ◌≢◌, ℕ, zero, suc, List, [], ◌∷◌, ◌++◌, length, refl, sym, ◌∙◌, ap, subst, arith, append_assoc}
-use Rattle.std.proofs.lemmas.List.{same_from_push, length_push, nil_from_length}
-use Rattle.bib_spec.specs.Text.{Text}
+use Rattle.history_spec.proofs.Words.{◌≡◌, ℕ, zero, suc, List, [], ◌∷◌, ◌++◌, length, refl, sym, ◌∙◌, ap, subst, arith, append_assoc, length_push, Text}
+use Rattle.std.proofs.Common.{◌≢◌}
+use Rattle.std.proofs.lemmas.List.{same_from_push, nil_from_length}
 use Rattle.history_spec.specs.History.{History, Edits, Amends, Undoes, Redoes, Move, Times, files_of, LeadsAlone, one_edit, one_amendment, amended_edit, one_undo, one_redo, no_undo, no_redo, undo_after_edit, redo_after_undo, undo_after_redo, IsAtFirst, IsAtLast, undoing_all, redoing_all}
 
 same_history : (a c : History) → c.past ≡ a.past → c.present ≡ a.present → c.future ≡ a.future → c ≡ a

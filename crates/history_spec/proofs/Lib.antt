@@ -1,4 +1,5 @@
 -- ---- a part of a text
+pub mod Words
 pub mod Shifts
 -- ---- pieces of two edits in turn
 pub mod Ordered

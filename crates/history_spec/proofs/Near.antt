@@ -1,13 +1,10 @@
 -- Pieces composed after other pieces, and where pieces end.
-use Rattle.std.proofs.Common.{⊎_elim, zero, suc, ◌≡◌, ℕ, ◌+◌, ◌-◌, ◌<◌, ◌≤◌, true, false, nat_le, get_or, List, [], ◌∷◌, ◌++◌, length, map, take, drop, refl, sym, subst, ◌∙◌, ap, ap₂, arith, append-nil, append_assoc}
-use Rattle.std.proofs.lemmas.Bool.{cases_Bool, cond-true, cond-false}
-use Rattle.std.proofs.lemmas.List.{take_at, drop_at, take_all, take_more, drop_more}
-use Rattle.std.specs.List.{AllByRecursion, between}
+use Rattle.history_spec.proofs.Words.{⊎_elim, zero, suc, ◌≡◌, ℕ, ◌+◌, ◌-◌, ◌<◌, ◌≤◌, true, false, nat_le, get_or, List, [], ◌∷◌, ◌++◌, length, map, take, drop, refl, sym, subst, ◌∙◌, ap, ap₂, arith, append-nil, append_assoc, cases_Bool, cond-true, cond-false, take_at, drop_at, AllByRecursion}
+use Rattle.history_spec.proofs.Words.{between, Text, Piece, end_of, Stands, AscendFrom, IsAscending, Fit, applied, applied_from, reversed_from, reversed, EndBy, fit_back, Member, Back, On, piece_of, in_order, Group, group_end, with_member, alone, groups_from, groups, composed_from, composed_at}
+use Rattle.history_spec.proofs.Words.{composed_after, composed, old_end, new_end, BeginsAfter, StandApart, LiesBetween}
+use Rattle.std.proofs.lemmas.List.{take_all, take_more, drop_more}
 use Rattle.bib_spec.specs.Bytes.{file_limit}
-use Rattle.bib_spec.specs.Text.{Text}
-use Rattle.bib_spec.specs.Pieces.{Piece, end_of, Stands, AscendFrom, IsAscending, Fit, applied, applied_from, reversed_from, reversed, EndBy}
-use Rattle.bib_spec.proofs.WayBack.{fit_back}
-use Rattle.history_spec.specs.Composing.{IsComposable, FitInTurn, Member, Back, On, piece_of, in_order, Group, group_end, with_member, alone, groups_from, groups, composed_from, composed_at, composed_after, composed, old_end, new_end, BeginsAfter, StandApart, LiesBetween, ends_of, ComposableAt, IsComposableAt, replaced}
+use Rattle.history_spec.specs.Composing.{IsComposable, FitInTurn, ends_of, ComposableAt, IsComposableAt, replaced}
 use Rattle.history_spec.proofs.Ordered.{OrderedFrom, order_ascends}
 use Rattle.history_spec.proofs.Grouped.{AreGroups, are_groups}
 use Rattle.history_spec.proofs.Glued.{composed-fit}

@@ -1,8 +1,7 @@
 -- Members in order: the members of each side are its pieces, and the places ascend.
-use Rattle.std.proofs.Common.{⊎_elim, ◌≡◌, ℕ, ◌+◌, ◌<◌, ◌≤◌, true, false, nat_le, get_or, List, [], ◌∷◌, map, length, refl, sym, ◌∙◌, ap, arith}
-use Rattle.std.proofs.lemmas.Bool.{cases_Bool, cond-true, cond-false, leb-true, leb-false, true≢false}
-use Rattle.bib_spec.specs.Pieces.{Piece, end_of, AscendFrom, BeginFrom}
-use Rattle.history_spec.specs.Composing.{Member, Back, On, piece_of, put_in, in_order, back_is_first, first_place}
+use Rattle.history_spec.proofs.Words.{⊎_elim, ◌≡◌, ℕ, ◌+◌, ◌<◌, ◌≤◌, true, false, nat_le, get_or, List, [], ◌∷◌, map, length, refl, sym, ◌∙◌, ap, arith, cases_Bool, cond-true, cond-false, leb-true, leb-false, Piece, end_of, AscendFrom, BeginFrom, Member, Back, On, piece_of, in_order, back_is_first}
+use Rattle.std.proofs.lemmas.Bool.{true≢false}
+use Rattle.history_spec.specs.Composing.{put_in, first_place}
 
 -- ---- the first member
 

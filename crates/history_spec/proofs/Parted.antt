@@ -1,11 +1,8 @@
 -- The groups divide the members: the ranges of each group are connected, and no two groups touch.
-use Rattle.std.proofs.Common.{⊎_elim, inl, inr, ◌≡◌, ◌⊎◌, ℕ, ◌+◌, ◌-◌, ◌<◌, ◌≤◌, nat_le, List, [], ◌∷◌, ◌++◌, length, drop, refl, sym, subst, ◌∙◌, ap, arith, length-append, length-drop}
-use Rattle.std.proofs.lemmas.Bool.{cases_Bool, cond-true, cond-false, leb-true, leb-false}
-use Rattle.std.specs.List.{AllByRecursion, between}
-use Rattle.bib_spec.specs.Text.{Text}
-use Rattle.bib_spec.specs.Pieces.{Piece, applied, reversed}
-use Rattle.bib_spec.proofs.WayBack.{fit_back}
-use Rattle.history_spec.specs.Composing.{Member, Back, On, piece_of, in_order, Group, group_end, covered_with, with_member, begun_at, alone, groups_from, groups, CoversByte, SomeCovers, HangsTogether, HoldsItsMembers, ApartFrom, AreApart, members_are_parted}
+use Rattle.history_spec.proofs.Words.{⊎_elim, inl, inr, ◌≡◌, ℕ, ◌+◌, ◌-◌, ◌<◌, ◌≤◌, nat_le, List, [], ◌∷◌, ◌++◌, length, drop, refl, sym, subst, ◌∙◌, ap, arith, length-append, length-drop, cases_Bool, cond-true, cond-false, leb-true, leb-false, AllByRecursion, between, Text, Piece, applied}
+use Rattle.history_spec.proofs.Words.{reversed, fit_back, Member, Back, On, piece_of, in_order, Group, group_end, covered_with, with_member, begun_at, alone, groups_from, groups, ApartFrom, AreApart}
+use Rattle.std.proofs.Common.{◌⊎◌}
+use Rattle.history_spec.specs.Composing.{CoversByte, SomeCovers, HangsTogether, HoldsItsMembers, members_are_parted}
 use Rattle.history_spec.proofs.Grouped.{AreGroups, are_groups, groups_backs, groups_ons}
 
 -- ---- together

@@ -1,11 +1,8 @@
 -- Pieces that fit a part of a text fit the text, and make of it what they make of the part.
-use Rattle.std.proofs.Common.{◌≡◌, ℕ, ◌+◌, ◌-◌, ◌≤◌, List, [], ◌∷◌, ◌++◌, length, take, drop, refl, sym, subst, ◌∙◌, ap, ap₂, arith, append_assoc, length-append, length-drop}
-use Rattle.std.proofs.lemmas.List.{take_at, drop_at, drop-drop, take-append-le, drop-append-le}
-use Rattle.std.specs.List.{AllByRecursion, between}
-use Rattle.bib_spec.specs.Text.{Text}
-use Rattle.bib_spec.specs.Pieces.{Piece, end_of, Stands, AscendFrom, Fit, BeginFrom, applied_from, applied}
-use Rattle.bib_spec.proofs.PieceLemmas.{drop-place, stands_before, applied_from-begin}
-use Rattle.history_spec.specs.Shifting.{moved_back, all_moved_back, FitAfter}
+use Rattle.history_spec.proofs.Words.{◌≡◌, ℕ, ◌+◌, ◌-◌, ◌≤◌, List, [], ◌∷◌, ◌++◌, length, take, drop, refl, sym, subst, ◌∙◌, ap, ap₂, arith, append_assoc, length-append, length-drop, take_at, drop_at, drop-drop, AllByRecursion, between, Text, Piece, end_of, Stands, AscendFrom, Fit, BeginFrom}
+use Rattle.history_spec.proofs.Words.{applied_from, applied, applied_from-begin, moved_back, all_moved_back, FitAfter}
+use Rattle.std.proofs.lemmas.List.{take-append-le, drop-append-le}
+use Rattle.bib_spec.proofs.PieceLemmas.{drop-place, stands_before}
 
 -- from a place within the part on, the text is the rest of the part, and the text after the part
 drop-after : (before bytes after : Text) (at n : ℕ) → length before ≡ at → n ≤ length bytes → drop (at + n) (before ++ (bytes ++ after)) ≡ drop n bytes ++ after

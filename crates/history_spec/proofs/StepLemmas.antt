@@ -1,16 +1,12 @@
 -- The files that steps reach, and how steps move from the past to the future and back.
-use Rattle.std.proofs.Common.{◌≡◌, ℕ, ◌+◌, ◌*◌, ◌≤◌, ◌<◌, List, [], ◌∷◌, ◌++◌, length, sum_by, decimal, inl, inr, refl, sym, ◌∙◌, ap, subst, arith, length-append}
-use Rattle.std.specs.List.{AllByRecursion, flat_map, between}
+use Rattle.history_spec.proofs.Words.{◌≡◌, ℕ, ◌+◌, ◌≤◌, ◌<◌, List, [], ◌∷◌, ◌++◌, length, inl, inr, refl, sym, ◌∙◌, ap, subst, arith, length-append, AllByRecursion, flat_map, between, length_push, Text, Piece, end_of, Stands, Fit, applied, applied_from, reversed, composed, fit_back}
+use Rattle.history_spec.proofs.Words.{applied-reversed}
+use Rattle.std.proofs.Common.{◌*◌, sum_by, decimal}
 use Rattle.std.proofs.lemmas.Fmt.{decimal_nonempty}
-use Rattle.std.proofs.lemmas.List.{length_push}
 use Rattle.std.proofs.lemmas.List.Sums.{sum_by-cons, sum_by_push}
 use Rattle.bib_spec.specs.Bytes.{line_feed, space}
-use Rattle.bib_spec.specs.Text.{Text}
-use Rattle.bib_spec.specs.Pieces.{Piece, end_of, Stands, Fit, applied, applied_from, reversed}
-use Rattle.history_spec.specs.Composing.{composed}
 use Rattle.history_spec.specs.Steps.{Step, KeptSteps, with_edit, before, first_of, files_before, files_after, piece_text, pieces_text, step_text, step_text_len, change_limit, step_texts_limit, number_limit, IsLabel, HasSmallNumbers, IsStep, AreSteps, IsSound, IsAllowed, Leads, LeadTo, LeadOn, adding_edits, joining_amends, going_back_undoes, going_on_redoes, steps_lead_back}
 use Rattle.bib_spec.specs.Texts.{IsOpenable}
-use Rattle.bib_spec.proofs.WayBack.{fit_back, applied-reversed}
 use Rattle.history_spec.proofs.Glued.{composed-fit, composed-lead}
 
 -- ---- the files that steps reach

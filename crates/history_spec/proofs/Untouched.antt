@@ -1,10 +1,8 @@
 -- Pieces of the first edit that nothing touches are groups of their own, and are unchanged.
-use Rattle.std.proofs.Common.{⊎_elim, ◌≡◌, ℕ, ◌+◌, ◌-◌, ◌<◌, ◌≤◌, true, nat_le, List, [], ◌∷◌, ◌++◌, length, drop, refl, sym, subst, ◌∙◌, ap, arith, append-nil}
-use Rattle.std.proofs.lemmas.Bool.{cases_Bool, cond-false, le-leb, lt-leb}
-use Rattle.std.proofs.lemmas.List.{drop_all}
-use Rattle.std.specs.List.{between}
-use Rattle.bib_spec.specs.Pieces.{Piece, end_of, AscendFrom, reversed_from}
-use Rattle.history_spec.specs.Composing.{Member, Back, piece_of, in_order, back_is_first, Group, group_end, group_old, with_member, alone, groups_from, groups, composed_from, old_end, new_end, BeginsAfter, StandApart, untouched_pieces_stay}
+use Rattle.history_spec.proofs.Words.{⊎_elim, ◌≡◌, ℕ, ◌+◌, ◌-◌, ◌<◌, ◌≤◌, true, nat_le, List, [], ◌∷◌, ◌++◌, length, drop, refl, sym, subst, ◌∙◌, ap, arith, append-nil, cases_Bool, cond-false, lt-leb, drop_all, between, Piece, end_of, AscendFrom, reversed_from, Member, Back, piece_of, in_order}
+use Rattle.history_spec.proofs.Words.{back_is_first, Group, group_end, group_old, with_member, alone, groups_from, groups, composed_from, old_end, new_end, BeginsAfter, StandApart}
+use Rattle.std.proofs.lemmas.Bool.{le-leb}
+use Rattle.history_spec.specs.Composing.{untouched_pieces_stay}
 use Rattle.history_spec.proofs.Ordered.{next_back, next_on}
 
 -- ---- places

@@ -1,8 +1,6 @@
 -- Lines of values: a text that begins with the line of a good value, and goes wrong after it, does so in one way.
-use Rattle.std.proofs.Common.{◌≡◌, ℕ, sym, subst, ◌∙◌, inl, inr}
-use Rattle.bib_spec.specs.Bytes.{line_feed}
-use Rattle.bib_spec.specs.Text.{Text}
-use Rattle.journal_format.specs.Wrong.{IsFreeOf, BeginsWith, HasWrongLine, IsWrongFrom}
+use Rattle.journal_format.proofs.Words.{◌≡◌, ℕ, sym, subst, ◌∙◌, inl, inr, line_feed, Text, IsFreeOf, BeginsWith, IsWrongFrom}
+use Rattle.journal_format.specs.Wrong.{HasWrongLine}
 use Rattle.journal_format.proofs.Cuts.{not_free, one_cut}
 
 -- the lines of good values have no line feed, and no two good values have the same line

@@ -1,24 +1,18 @@
 -- The text of a journal determines its contents, and a text goes wrong at one place.
-use Rattle.std.proofs.Common.{◌≡◌, ℕ, ◌+◌, ◌≤◌, zero, suc, true, not, ◌==◌, List, [], ◌∷◌, ◌++◌, length, get_or, decimal, sum_by, refl, sym, subst, ◌∙◌, ap, arith, inl, inr, length-append}
+use Rattle.journal_format.proofs.Words.{◌≡◌, ℕ, ◌+◌, ◌≤◌, zero, suc, true, not, ◌==◌, List, [], ◌∷◌, ◌++◌, length, get_or, decimal, sum_by, refl, sym, subst, ◌∙◌, ap, arith, inl, inr, length-append, and_parts, eqb_tells, append_assoc, append-nil, AllByRecursion, flat_map, list_all, line_feed, Text}
+use Rattle.journal_format.proofs.Words.{Piece, end_of, AscendFrom, Step, IsLabel, HasSmallNumbers, change_limit, piece_text, pieces_text, step_text, step_text_len, IsDigest, is_hex_digit, version_line, IsKnown, Counts, counts, counts_line, AreFew, IsSmall, Numbers, numbers_of, numbers_line}
+use Rattle.journal_format.proofs.Words.{AreNumbers, step_text_in, IsStepIn, steps_limit, text_in, IsFreeOf, BeginsWith, HasWrongBytes, BeginsWithPiece, BeginsWithPieces, BeginsWithStep, IsWrongPiece, AreWrongPieces, HasWrongPieces, IsWrongStep, AreWrongSteps, IsWrongTail, IsWrongFromCounts}
+use Rattle.journal_format.proofs.Words.{IsWrongFromDigest, IsWrongJournal, Version, First, Second}
 use Rattle.std.proofs.lemmas.List.Sums.{sum_by-cons}
 use Rattle.std.proofs.Math.Seq.{get_or-append_seam}
-use Rattle.std.proofs.lemmas.Bool.{and_parts, false≢true}
-use Rattle.std.proofs.lemmas.Bool.Decides.{eqb_tells}
-use Rattle.std.proofs.lemmas.List.{append_assoc, append-nil}
+use Rattle.std.proofs.lemmas.Bool.{false≢true}
 use Rattle.std.proofs.lemmas.List.Concat.{length-flat_map}
-use Rattle.std.specs.List.{AllByRecursion, flat_map, list_all}
-use Rattle.bib_spec.specs.Bytes.{line_feed}
-use Rattle.bib_spec.specs.Text.{Text}
-use Rattle.bib_spec.specs.Pieces.{Piece, end_of, AscendFrom}
-use Rattle.history_spec.specs.Steps.{Step, IsLabel, is_label_byte, IsStep, HasSmallNumbers, change_limit, piece_text, pieces_text, step_text, step_text_len, step_texts_limit}
-use Rattle.journal_format.specs.Contents.{Contents, AreContents, IsDigest, is_hex_digit}
-use Rattle.journal_format.specs.JournalText.{version_line, IsKnown, Counts, counts, counts_line, AreFew, IsSmall, Numbers, numbers_of, numbers_line, AreNumbers, step_text_in, IsStepIn, steps_limit, text_in, AreContentsIn}
-use Rattle.journal_format.specs.Wrong.{IsFreeOf, BeginsWith, HasWrongBytes, BeginsWithPiece, BeginsWithPieces, BeginsWithStep, IsWrongPiece, AreWrongPieces, HasWrongPieces, IsWrongStep, AreWrongSteps, IsWrongTail, IsWrongFromCounts, IsWrongFromDigest, IsWrongJournal}
+use Rattle.history_spec.specs.Steps.{is_label_byte, IsStep, step_texts_limit}
+use Rattle.journal_format.specs.Contents.{Contents, AreContents}
+use Rattle.journal_format.specs.JournalText.{AreContentsIn}
 use Rattle.journal_format.specs.Faults.{IsJournalOf}
 use Rattle.journal_format.specs.Parts.{IsFromDigest}
 use Rattle.journal_format.specs.Laws.{one_contents, texts_are_journals, no_journal_goes_wrong, one_place}
-use Rattle.journal_format.specs.declared.version.Version.{Version}
-use Rattle.journal_format.specs.declared.version.Version.TheVariants.{First, Second}
 use Rattle.journal_format.proofs.Forms.{AreForms, one_first, wrong_after, one_wrong}
 use Rattle.journal_format.proofs.Numerals.{small_forms, counts_forms, numbers_forms}
 use Rattle.journal_format.proofs.PieceTexts.{piece_text-is, pieces_text-is, step_text-is}

@@ -1,11 +1,5 @@
 -- Lines of numbers, cut at their spaces.
-use Rattle.std.proofs.Common.{◌≡◌, ℕ, ◌+◌, ◌≤◌, ◌∷◌, ◌++◌, decimal, sym, subst, ◌∙◌, arith, lit<}
-use Rattle.std.proofs.lemmas.Fmt.{decimal_injective}
-use Rattle.bib_spec.specs.Bytes.{space}
-use Rattle.bib_spec.specs.Text.{Text}
-use Rattle.history_spec.specs.Steps.{number_limit, change_limit}
-use Rattle.journal_format.specs.JournalText.{counts_line, AreFew, numbers_line, AreNumbers}
-use Rattle.journal_format.specs.Wrong.{IsFreeOf, IsCut, IsLineOf}
+use Rattle.journal_format.proofs.Words.{◌≡◌, ℕ, ◌+◌, ◌≤◌, ◌∷◌, ◌++◌, decimal, sym, subst, ◌∙◌, arith, lit<, decimal_injective, space, Text, number_limit, change_limit, counts_line, AreFew, numbers_line, AreNumbers, IsFreeOf, IsCut, IsLineOf}
 use Rattle.journal_format.proofs.Cuts.{not_free, one_cut}
 use Rattle.journal_format.proofs.Numerals.{decimal_free}
 

@@ -1,15 +1,9 @@
 -- The digits of numbers.
-use Rattle.std.proofs.Common.{◌≡◌, ℕ, ◌+◌, ◌^◌, ◌<◌, ◌≤◌, [], ◌∷◌, ◌++◌, decimal, ◌∙◌, ap, arith, lit<}
-use Rattle.std.proofs.lemmas.Fmt.{decimal_is_IsNumeral, decimal_injective, IsAscii-decimal}
+use Rattle.journal_format.proofs.Words.{◌≡◌, ℕ, ◌+◌, ◌^◌, ◌<◌, ◌≤◌, [], ◌∷◌, ◌++◌, decimal, ◌∙◌, ap, arith, lit<, decimal_injective, IsUtf8, line_feed, space, Text, number_limit, change_limit, Counts, counts_line, AreFew, IsSmall, Numbers, numbers_line, AreNumbers, IsFreeOf}
+use Rattle.std.proofs.lemmas.Fmt.{decimal_is_IsNumeral, IsAscii-decimal}
 use Rattle.std.proofs.lemmas.Str.{IsUtf8-from_ascii}
 use Rattle.std.proofs.lemmas.Str.Parse.{digit_from_value}
-use Rattle.std.specs.Str.{IsUtf8}
 use Rattle.std.specs.Str.Parse.{AllDigits}
-use Rattle.bib_spec.specs.Bytes.{line_feed, space}
-use Rattle.bib_spec.specs.Text.{Text}
-use Rattle.history_spec.specs.Steps.{number_limit, change_limit}
-use Rattle.journal_format.specs.JournalText.{Counts, counts_line, AreFew, IsSmall, Numbers, numbers_line, AreNumbers}
-use Rattle.journal_format.specs.Wrong.{IsFreeOf}
 use Rattle.journal_format.proofs.Cuts.{one_cut, free-append}
 use Rattle.journal_format.proofs.Forms.{AreForms}
 

@@ -1,17 +1,10 @@
 -- How the texts of pieces and steps begin.
-use Rattle.std.proofs.Common.{◌≡◌, ◌≢◌, ℕ, ◌+◌, ◌-◌, ◌<◌, ◌≤◌, suc, List, [], ◌∷◌, ◌++◌, length, take, drop, decimal, refl, sym, subst, ◌∙◌, ap, arith, inl, inr, length-take, length-drop}
-use Rattle.std.proofs.lemmas.List.{append_assoc, append-nil, length_push, flat_map_more, take-append-drop}
-use Rattle.std.specs.List.{AllByRecursion, flat_map}
-use Rattle.bib_spec.specs.Bytes.{line_feed}
-use Rattle.bib_spec.specs.Text.{Text}
-use Rattle.bib_spec.specs.Pieces.{Piece, end_of, AscendFrom}
-use Rattle.history_spec.specs.Steps.{Step, IsLabel, HasSmallNumbers, piece_text, pieces_text, step_text, number_limit}
+use Rattle.journal_format.proofs.Words.{◌≡◌, ℕ, ◌+◌, ◌-◌, ◌<◌, ◌≤◌, suc, List, [], ◌∷◌, ◌++◌, length, take, drop, decimal, refl, sym, subst, ◌∙◌, ap, arith, inl, inr, append_assoc, append-nil, length_push, flat_map_more, take-append-drop, AllByRecursion, flat_map, line_feed, Text, Piece, end_of}
+use Rattle.journal_format.proofs.Words.{AscendFrom, Step, IsLabel, HasSmallNumbers, piece_text, pieces_text, step_text, number_limit, numbers_of, numbers_line, AreNumbers, IsSmall, step_text_in, IsStepIn, steps_limit, BeginsWith, BeginsWithPiece, BeginsWithPieces, BeginsWithStep, IsWrongPiece}
+use Rattle.journal_format.proofs.Words.{AreWrongPieces, HasWrongPieces, IsWrongStep, AreWrongSteps, IsWrongTail, StopsWhere, Version, First, Second}
+use Rattle.std.proofs.Common.{◌≢◌, length-take, length-drop}
 use Rattle.history_spec.proofs.StepLemmas.{all_push}
-use Rattle.journal_format.specs.JournalText.{numbers, numbers_of, numbers_line, AreNumbers, IsSmall, step_text_in, IsStepIn, steps_limit}
-use Rattle.journal_format.specs.Wrong.{BeginsWith, BeginsWithPiece, BeginsWithPieces, BeginsWithStep, IsWrongPiece, AreWrongPieces, HasWrongPieces, IsWrongStep, AreWrongSteps, IsWrongTail}
-use Rattle.journal_format.specs.Faults.{StopsWhere}
-use Rattle.journal_format.specs.declared.version.Version.{Version}
-use Rattle.journal_format.specs.declared.version.Version.TheVariants.{First, Second}
+use Rattle.journal_format.specs.JournalText.{numbers}
 use Rattle.journal_format.specs.declared.fault.Stop.{Stop}
 use Rattle.journal_format.specs.declared.fault.Stop.TheVariants as stops
 

@@ -1,11 +1,8 @@
 -- The length of a step as text.
-use Rattle.std.proofs.Common.{◌≡◌, ℕ, ◌+◌, ◌/◌, ◌%◌, ◌^◌, ◌≤◌, ◌<◌, suc, zero, cond, nat_lt, List, [], ◌∷◌, ◌++◌, length, take, get_or, sym, ◌∙◌, ap, arith, rules, decimal, length-append, lit<}
+use Rattle.journal_format.proofs.Words.{◌≡◌, ℕ, ◌+◌, ◌/◌, ◌%◌, ◌^◌, ◌≤◌, ◌<◌, suc, zero, List, [], ◌∷◌, ◌++◌, length, take, get_or, sym, ◌∙◌, ap, arith, rules, decimal, length-append, lit<, length_push, take_more, take_all, flat_map_more, flat_map, Piece, line_feed, Step, piece_text, pieces_text}
+use Rattle.journal_format.proofs.Words.{step_text, step_text_len}
+use Rattle.std.proofs.Common.{cond, nat_lt}
 use Rattle.std.proofs.lemmas.Fmt.{AppendsLastDigit, decimal_from_appends, length-decimal-le}
-use Rattle.std.proofs.lemmas.List.{length_push, take_more, take_all, flat_map_more}
-use Rattle.std.specs.List.{flat_map}
-use Rattle.bib_spec.specs.Pieces.{Piece}
-use Rattle.bib_spec.specs.Bytes.{line_feed}
-use Rattle.history_spec.specs.Steps.{Step, piece_text, pieces_text, step_text, step_text_len}
 
 -- the last k digits
 abbrev pub shown : ℕ → ℕ → List ℕ

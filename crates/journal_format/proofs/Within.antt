@@ -1,14 +1,6 @@
 -- If a text goes wrong, at most as many bytes are left as it has.
-use Rattle.std.proofs.Common.{◌≡◌, ℕ, ◌+◌, ◌≤◌, zero, suc, ◌∷◌, ◌++◌, length, decimal, arith, ap, inl, inr, length-append}
-use Rattle.bib_spec.specs.Bytes.{line_feed}
-use Rattle.bib_spec.specs.Text.{Text}
-use Rattle.bib_spec.specs.Pieces.{end_of}
-use Rattle.history_spec.specs.Steps.{IsLabel, piece_text}
-use Rattle.journal_format.specs.Contents.{IsDigest}
-use Rattle.journal_format.specs.JournalText.{version_line, IsKnown, counts_line, AreFew, IsSmall, numbers_line, AreNumbers, step_text_in}
-use Rattle.journal_format.specs.Wrong.{IsWrongFrom, HasWrongBytes, IsWrongPiece, AreWrongPieces, HasWrongPieces, IsWrongStep, AreWrongSteps, IsWrongTail, IsWrongFromCounts, IsWrongFromDigest, IsWrongJournal}
-use Rattle.journal_format.specs.declared.version.Version.{Version}
-use Rattle.journal_format.specs.declared.version.Version.TheVariants.{First, Second}
+use Rattle.journal_format.proofs.Words.{◌≡◌, ℕ, ◌+◌, ◌≤◌, zero, suc, ◌∷◌, ◌++◌, length, decimal, arith, ap, inl, inr, length-append, line_feed, Text, end_of, IsLabel, piece_text, IsDigest, version_line, IsKnown, counts_line, AreFew, IsSmall, numbers_line, AreNumbers, step_text_in, IsWrongFrom}
+use Rattle.journal_format.proofs.Words.{HasWrongBytes, IsWrongPiece, AreWrongPieces, HasWrongPieces, IsWrongStep, AreWrongSteps, IsWrongTail, IsWrongFromCounts, IsWrongFromDigest, IsWrongJournal, Version, First, Second}
 
 after_within : (front rest text : Text) (left : ℕ) → text ≡ front ++ rest → left ≤ length rest → left ≤ length text
 after_within front rest text left whole h = omega (arith, ap length whole, length-append front rest)

@@ -1,12 +1,7 @@
 -- Texts of several pieces or steps, written one after another.
-use Rattle.std.proofs.Common.{◌≡◌, ℕ, ◌+◌, ◌<◌, ◌≤◌, List, [], ◌∷◌, ◌++◌, length, take, get_or, decimal, sym, ◌∙◌, ap, reverse}
-use Rattle.std.proofs.lemmas.List.{append_assoc, take_more, take_all, flat_map_more, length-reverse}
-use Rattle.std.specs.List.{flat_map}
-use Rattle.bib_spec.specs.Bytes.{line_feed}
-use Rattle.bib_spec.specs.Text.{Text}
-use Rattle.bib_spec.specs.Pieces.{Piece}
-use Rattle.history_spec.specs.Steps.{Step, piece_text, pieces_text, step_text}
-use Rattle.journal_format.specs.JournalText.{counts, head_text, text_in, journal_text}
+use Rattle.journal_format.proofs.Words.{◌≡◌, ℕ, ◌+◌, ◌<◌, ◌≤◌, List, [], ◌∷◌, ◌++◌, length, take, get_or, decimal, sym, ◌∙◌, ap, reverse, append_assoc, take_more, take_all, flat_map_more, flat_map, line_feed, Text, Piece, Step, piece_text, pieces_text, step_text, counts, text_in}
+use Rattle.std.proofs.lemmas.List.{length-reverse}
+use Rattle.journal_format.specs.JournalText.{head_text, journal_text}
 
 pub written_more : {X : Type 0} (f : X → Text) (bs out next : Text) (xs : List X) (i : ℕ) (x : X) → i < length xs → x ≡ get_or xs i x
     → out ≡ bs ++ flat_map f (take i xs) → next ≡ out ++ f x → next ≡ bs ++ flat_map f (take (i + 1) xs)

@@ -1,17 +1,9 @@
 -- A date of the profile is read back.
-use Rattle.std.proofs.Common.{◌≡◌, ℕ, suc, ◌+◌, true, false, cond, not, ◌&&◌, ◌||◌, List, [], ◌∷◌, ◌++◌, take, drop, refl, sym, ap, subst, ◌∙◌, arith, ⊎_elim}
-use Rattle.std.specs.Prelude.{codes, find, Some, is_some}
-use Rattle.std.specs.List.{prefix_len, list_any, AllByRecursion}
-use Rattle.std.specs.Option.{option_map_or}
-use Rattle.std.specs.Str.{bytes_eq}
-use Rattle.std.proofs.lemmas.Bool.{cases_Bool, or_parts, cond-false}
-use Rattle.bib_spec.specs.Text.{Text, is_space, after_run}
-use Rattle.bib_spec.specs.Texts.{is_empty}
-use Rattle.bib_spec.proofs.Names.{eq-true}
-use Rattle.bib_text.specs.Trimming.{trimmed}
-use Rattle.bib_value.specs.Spacing.{neat}
-use Rattle.ris_format.specs.Lines.{has_bytes}
-use Rattle.ris_format.specs.Dates.{Month, month, months, is_slash, has_slash, is_no_slash, month_digits, written_year, written_month, date_value, date_values, written_date, before_slash, after_slash, read_year, read_month, numbers_month, is_plain_month}
+use Rattle.ris_format.proofs.Words.{◌≡◌, ℕ, suc, ◌+◌, true, false, cond, ◌&&◌, ◌||◌, [], ◌∷◌, ◌++◌, take, drop, refl, sym, ap, subst, ◌∙◌, arith, ⊎_elim, find, Some, prefix_len, list_any, AllByRecursion, option_map_or, bytes_eq, cases_Bool, or_parts, cond-false, Text, is_space, after_run, is_empty}
+use Rattle.ris_format.proofs.Words.{eq-true, trimmed, neat, has_bytes, Month, has_slash, written_year, written_month, date_value, written_date, read_year, read_month}
+use Rattle.std.proofs.Common.{not, List}
+use Rattle.std.specs.Prelude.{codes, is_some}
+use Rattle.ris_format.specs.Dates.{month, months, is_slash, is_no_slash, month_digits, date_values, before_slash, after_slash, numbers_month, is_plain_month}
 use Rattle.ris_format.proofs.Neat.{neat-append}
 use Rattle.ris_format.proofs.Trims.{trimmed-neat, after_run-yes, after_run-no}
 use Rattle.ris_format.proofs.Values.{first, are_neat}

@@ -1,38 +1,18 @@
 -- Lines that are written of texts that are their own field texts can be lines of a file.
-use Rattle.std.proofs.Common.{◌≡◌, ℕ, ◌+◌, ◌-◌, Bool, true, false, cond, not, ◌&&◌, eqb, List, [], ◌∷◌, ◌++◌, take, drop, refl, sym, ap, subst, ◌∙◌, ⊎_elim, append-nil, map}
-use Rattle.std.specs.Prelude.{codes, Option, Some, None, option_map, find}
-use Rattle.std.specs.List.{flat_map, list_any, list_all, slice_range, prefix_len, AllByRecursion}
-use Rattle.std.specs.Option.{option_map_or}
-use Rattle.std.specs.Str.{bytes_eq}
-use Rattle.std.proofs.lemmas.Bool.{cases_Bool, cond-true, cond_both, and_parts, and_from, or_from, or_cases, or_parts, not-true, not-false, not_from_false, both_ways, false_from_ne_true, eqb-true}
-use Rattle.std.proofs.lemmas.List.{take-append-drop}
-use Rattle.std.proofs.lemmas.Slice.Eq.{bytes_eq-Decides}
-use Rattle.bib_spec.specs.Text.{Text, is_space, IsBalanced}
-use Rattle.bib_spec.specs.Texts.{is_empty, field_text}
-use Rattle.bib_spec.specs.Records.{Record, RecordField}
-use Rattle.bib_spec.proofs.Names.{eq-true}
-use Rattle.bib_text.specs.Trimming.{trimmed}
-use Rattle.bib_names.specs.NameList.{names_of}
-use Rattle.bib_names.specs.Words.{NameWord}
-use Rattle.bib_names.specs.Name.{parts_of}
-use Rattle.bib_names.specs.Label.{balances}
-use Rattle.bib_names.specs.declared.name.Name.{Name}
-use Rattle.bib_names.proofs.BalanceLaws.{balances-yes, IsBalanced-from_test}
-use Rattle.ris_text.specs.declared.records.RisLine.{RisLine}
+use Rattle.ris_format.proofs.Words.{◌≡◌, ℕ, ◌+◌, ◌-◌, Bool, true, false, cond, ◌&&◌, eqb, [], ◌∷◌, ◌++◌, take, drop, refl, sym, ap, subst, ◌∙◌, ⊎_elim, append-nil, Some, None, option_map, find, flat_map, list_any, list_all, slice_range, prefix_len, AllByRecursion, option_map_or, bytes_eq}
+use Rattle.ris_format.proofs.Words.{cases_Bool, cond-true, and_parts, and_from, or_from, or_cases, or_parts, not-true, not-false, not_from_false, both_ways, false_from_ne_true, eqb-true, take-append-drop, bytes_eq-Decides, Text, is_space, IsBalanced, is_empty, field_text, Record, RecordField}
+use Rattle.ris_format.proofs.Words.{eq-true, trimmed, names_of, NameWord, parts_of, balances, Name, balances-yes, IsBalanced-from_test, RisLine, Kind, Article, Book, Incollection, Inproceedings, Phdthesis, Techreport, Unpublished, Misc, ris_type, publisher_field, serial_field, is_article}
+use Rattle.ris_format.proofs.Words.{kind_of_entry, neat, has_bytes, single, line, Tagged, tagged_lines, lines_of, words_end, part_text, family, Person, person, with_comma, ris_name, is_somebody, taken_apart, is_broken, is_refused, written_person, written_name, written_people, Month, has_slash}
+use Rattle.ris_format.proofs.Words.{written_year, written_month, date_value, written_date, is_no_hyphen, before_dash, has_dash, before_cut, after_cut, is_margin, page, are_two, written_start, written_end, Fields, is_filled, text_of, ris, has_own_text, neat-space, neat-word}
+use Rattle.std.proofs.Common.{not, List, map}
+use Rattle.std.specs.Prelude.{codes, Option}
+use Rattle.std.proofs.lemmas.Bool.{cond_both}
 use Rattle.ris_text.specs.Tags as tags
 use Rattle.ris_text.specs.Tags.{is_known}
 use Rattle.ris_text.specs.Writing.{ends_line, fits_line, is_well_formed_line, is_well_formed}
-use Rattle.ris_format.specs.declared.kinds.Kind.{Kind}
-use Rattle.ris_format.specs.declared.kinds.Kind.TheVariants.{Article, Book, Incollection, Inproceedings, Phdthesis, Techreport, Unpublished, Misc}
-use Rattle.ris_format.specs.Kinds.{ris_type, publisher_field, serial_field, is_article, kind_of_entry}
-use Rattle.bib_value.specs.Spacing.{neat}
-use Rattle.ris_format.specs.Lines.{has_bytes, single, line, Tagged, tagged_lines, lines_of}
-use Rattle.ris_format.specs.People.{words_end, part_text, family, Person, person, with_comma, ris_name, is_somebody, taken_apart, is_broken, is_refused, written_person, written_name, written_people}
-use Rattle.ris_format.specs.Dates.{Month, months, has_slash, names_month, written_year, written_month, date_value, written_date}
-use Rattle.ris_format.specs.Pages.{is_no_hyphen, before_dash, has_dash, before_cut, after_cut, is_margin, page, are_two, written_start, written_end}
-use Rattle.ris_format.specs.Mapping.{Fields, is_filled, text_of, written, ris}
-use Rattle.ris_format.specs.Fitting.{has_own_text, SpacedRecordsFit}
-use Rattle.bib_value.proofs.NeatTexts.{neat-space, neat-word}
+use Rattle.ris_format.specs.Dates.{months, names_month}
+use Rattle.ris_format.specs.Mapping.{written}
+use Rattle.ris_format.specs.Fitting.{SpacedRecordsFit}
 use Rattle.ris_format.proofs.Neat.{neat-append, neat-slice, neat-field_text}
 use Rattle.ris_format.proofs.Trims.{neat-cut, trimmed-neat}
 use Rattle.ris_format.proofs.Values.{are_neat, single-neat, are_neat-append}

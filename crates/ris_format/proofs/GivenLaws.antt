@@ -1,23 +1,17 @@
 -- The records of a database have field texts, and keys without white space.
-use Rattle.std.proofs.Common.{◌≡◌, ℕ, zero, suc, Bool, true, false, not, List, [], ◌∷◌, ◌++◌, refl, sym, ap, ◌∙◌, ⊎_elim, map, All, slice_get}
-use Rattle.std.specs.Prelude.{filter, Option, Some, None, option_map}
-use Rattle.std.specs.List.{list_any, list_all, AllPass}
-use Rattle.std.specs.Option.{option_map_or}
-use Rattle.std.proofs.lemmas.Bool.{cases_Bool, cond-true, cond-false, and_parts, and_from, or_from, not_from_false}
+use Rattle.ris_format.proofs.Words.{◌≡◌, ℕ, zero, suc, Bool, true, false, [], ◌∷◌, ◌++◌, refl, sym, ap, ◌∙◌, ⊎_elim, Some, None, option_map, list_any, list_all, option_map_or, cases_Bool, cond-true, cond-false, and_parts, and_from, or_from, not_from_false, Text, is_space, field_text, RecordField}
+use Rattle.ris_format.proofs.Words.{Record, true-eq, more_text, more_text-all, neat, has_bytes, has_own_text, field_text-neat}
+use Rattle.std.proofs.Common.{not, List, map, All, slice_get}
+use Rattle.std.specs.Prelude.{filter, Option}
+use Rattle.std.specs.List.{AllPass}
 use Rattle.std.proofs.lemmas.Option.{same_Some, none-some}
 use Rattle.std.proofs.lemmas.List.Elements.{All-head, All-tail}
 use Rattle.bib_spec.specs.Bytes.{name_limit}
-use Rattle.bib_spec.specs.Text.{Text, is_space}
 use Rattle.bib_spec.specs.Tree.{Delimiter, goes_on_key, Tree, CommentTree, DefinitionTree, PreambleTree, EntryTree, IsTree}
 use Rattle.bib_spec.specs.Reading.{Item, Reading, Reads, IsItem}
-use Rattle.bib_spec.specs.Texts.{Macros, months, macros_after, gathered, field_text}
-use Rattle.bib_spec.specs.Records.{Field, EntryTexts, texts_of, entry_in, entries_of, effective, has_name, crossref, RecordField, Record, record_field, own_fields, missing, fields_at, with_inherited, ancestors, record_of, expanded}
-use Rattle.bib_spec.proofs.Names.{true-eq}
-use Rattle.bib_value.proofs.FieldTextLemmas.{more_text, more_text-all}
-use Rattle.bib_value.specs.Spacing.{neat}
-use Rattle.ris_format.specs.Lines.{has_bytes}
-use Rattle.ris_format.specs.Fitting.{has_own_text, is_spaced, GivenRecordsFit}
-use Rattle.bib_value.proofs.NeatTexts.{field_text-neat}
+use Rattle.bib_spec.specs.Texts.{Macros, months, macros_after, gathered}
+use Rattle.bib_spec.specs.Records.{Field, EntryTexts, texts_of, entry_in, entries_of, effective, has_name, crossref, record_field, own_fields, missing, fields_at, with_inherited, ancestors, record_of, expanded}
+use Rattle.ris_format.specs.Fitting.{is_spaced, GivenRecordsFit}
 use Rattle.ris_format.proofs.Neat.{neat-whole}
 use Rattle.ris_format.proofs.FitLaws.{spaced_records_fit}
 use Rattle.bib_scan.proofs.TreeAgainLaws.{key_no_space}

@@ -1,15 +1,8 @@
 -- Keywords of the profile are read back.
-use Rattle.std.proofs.Common.{◌≡◌, ℕ, Bool, true, List, [], ◌∷◌, ◌++◌, refl, sym, ap, ◌∙◌, ⊎_elim, append_assoc, append-nil}
+use Rattle.ris_format.proofs.Words.{◌≡◌, ℕ, Bool, true, [], ◌∷◌, ◌++◌, refl, sym, ap, ◌∙◌, ⊎_elim, append-nil, slice_split, onto_first, cases_Bool, cond-true, cond-false, Text, is_space, eq-true, trimmed, neat, has_bytes, with_front, is_comma_byte, written_keywords, read_keywords}
+use Rattle.std.proofs.Common.{List, append_assoc}
 use Rattle.std.specs.Prelude.{map, filter}
-use Rattle.std.specs.List.{slice_split, onto_first}
-use Rattle.std.proofs.lemmas.Bool.{cases_Bool, cond-true, cond-false}
-use Rattle.bib_spec.specs.Text.{Text, is_space}
-use Rattle.bib_spec.proofs.Names.{eq-true}
-use Rattle.bib_text.specs.Trimming.{trimmed}
-use Rattle.bib_value.specs.Spacing.{neat}
-use Rattle.ris_format.specs.Lines.{has_bytes}
-use Rattle.ris_format.specs.Pieces.{with_front}
-use Rattle.ris_format.specs.Keywords.{is_comma_byte, written_keywords, read_keywords, are_plain_keywords}
+use Rattle.ris_format.specs.Keywords.{are_plain_keywords}
 use Rattle.ris_format.proofs.Trims.{neat-cut}
 use Rattle.ris_format.proofs.Values.{are_neat, filled-neat}
 

@@ -1,16 +1,13 @@
 -- Depth of places in parts of a text.
-use Rattle.std.proofs.Common.{◌≡◌, ℕ, zero, suc, ◌+◌, ◌-◌, ◌≤◌, ◌<◌, Bool, true, false, cond, ◌&&◌, ◌||◌, eqb, List, [], ◌∷◌, ◌++◌, length, take, drop, get_or, refl, sym, ap, ◌∙◌, arith, ⊎_elim, subst, leb, inl, inr, ◌⊎◌, below_more}
-use Rattle.std.specs.Prelude.{count_by}
-use Rattle.std.specs.List.{slice_range, list_any, AllByRecursion}
-use Rattle.std.proofs.lemmas.Bool.{cases_Bool, cond-true, cond-false, eqb-true, eq-eqb, ne_eqb, and_parts, or_parts, both_ways, leb-true, leb-false, not-false}
-use Rattle.std.proofs.lemmas.List.{take-append-drop, take-append-le, take_all, get_or-append-add, get_or_append_left, length-drop, length-take-le}
+use Rattle.ris_format.proofs.Words.{◌≡◌, ℕ, zero, suc, ◌+◌, ◌-◌, ◌≤◌, ◌<◌, Bool, true, false, cond, ◌&&◌, ◌||◌, eqb, [], ◌∷◌, ◌++◌, length, take, drop, get_or, refl, sym, ap, ◌∙◌, arith, ⊎_elim, subst, inl, inr, ◌⊎◌, below_more, count_by, slice_range, list_any, AllByRecursion, cases_Bool, cond-true}
+use Rattle.ris_format.proofs.Words.{cond-false, eqb-true, eq-eqb, ne_eqb, and_parts, or_parts, both_ways, not-false, take-append-drop, take-append-le, take_all, get_or-append-add, length-drop, length-take-le, Text, is_space, after_run, opened_before, closed_before, IsBalanced, is_level, places_from}
+use Rattle.ris_format.proofs.Words.{between, Stretch, stretch, before_run, is_comma, commas}
+use Rattle.std.proofs.Common.{List, leb}
+use Rattle.std.proofs.lemmas.Bool.{leb-true, leb-false}
+use Rattle.std.proofs.lemmas.List.{get_or_append_left}
 use Rattle.std.proofs.lemmas.List.Sums.{sum_by-append, sum_by-cons}
 use Rattle.std.proofs.Math.Seq.{take-append-add}
-use Rattle.bib_spec.specs.Text.{Text, is_space, after_run, opened_before, closed_before, IsBalanced}
 use Rattle.bib_spec.proofs.Names.{both_true}
-use Rattle.bib_names.specs.Places.{is_level, places_from, between, Stretch, stretch}
-use Rattle.bib_text.specs.Trimming.{before_run}
-use Rattle.bib_names.specs.Name.{is_comma, commas}
 use Rattle.bib_names.proofs.CommaLemmas.{level_after}
 use Rattle.ris_format.proofs.Trims.{after_run-yes, after_run-no, before_run-cons, before_run-none, fails}
 

@@ -1,4 +1,5 @@
 -- ---- texts and lists
+pub mod Words
 pub mod Neat
 pub mod Trims
 pub mod Values

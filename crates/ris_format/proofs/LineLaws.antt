@@ -1,16 +1,8 @@
 -- What is found after tags in lines that were written of neat values.
-use Rattle.std.proofs.Common.{◌≡◌, Bool, true, false, List, [], ◌∷◌, ◌++◌, refl, sym, ap, ◌∙◌, ⊎_elim, map}
-use Rattle.std.specs.Prelude.{filter, if◌then◌else◌}
-use Rattle.std.specs.List.{flat_map, list_any, list_all}
-use Rattle.std.specs.Str.{bytes_eq}
-use Rattle.std.proofs.lemmas.Bool.{cases_Bool, cond-true, cond-false, and_from, and_parts}
-use Rattle.std.proofs.lemmas.List.{map-append}
-use Rattle.std.proofs.lemmas.List.Elements.{filter-append}
-use Rattle.bib_spec.specs.Text.{Text}
-use Rattle.ris_text.specs.declared.records.RisLine.{RisLine}
-use Rattle.bib_value.specs.Spacing.{neat}
-use Rattle.ris_format.specs.Lines.{has_bytes, line, Tagged, tagged_lines, lines_of, spaced, read_lines, has_tag, values_at, are_neat_lines}
-use Rattle.bib_value.proofs.NeatTexts.{field_text-neat}
+use Rattle.ris_format.proofs.Words.{◌≡◌, Bool, true, false, [], ◌∷◌, ◌++◌, refl, sym, ap, ◌∙◌, ⊎_elim, if◌then◌else◌, flat_map, list_any, list_all, bytes_eq, cases_Bool, cond-true, cond-false, and_from, and_parts, map-append, filter-append, Text, RisLine, neat, has_bytes, line, Tagged, tagged_lines}
+use Rattle.ris_format.proofs.Words.{lines_of, spaced, read_lines, has_tag, values_at, are_neat_lines, field_text-neat}
+use Rattle.std.proofs.Common.{List, map}
+use Rattle.std.specs.Prelude.{filter}
 use Rattle.ris_format.proofs.Neat.{neat-has_bytes}
 use Rattle.ris_format.proofs.Values.{are_neat}
 

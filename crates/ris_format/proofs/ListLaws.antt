@@ -1,18 +1,10 @@
 -- The names of a list, as parts of it.
-use Rattle.std.proofs.Common.{◌≡◌, ℕ, zero, suc, ◌+◌, ◌-◌, ◌≤◌, ◌<◌, true, false, cond, ◌&&◌, eqb, ltb, List, [], ◌∷◌, ◌++◌, length, take, drop, get_or, refl, sym, ap, subst, ◌∙◌, arith, ⊎_elim, map, inl, inr, ◌⊎◌, below_more, lit<}
-use Rattle.std.specs.Prelude.{codes, count_by}
-use Rattle.std.specs.List.{slice_range, list_all, prefix_len, AllByRecursion}
-use Rattle.std.specs.Char.{to_ascii_lowercase}
-use Rattle.std.proofs.lemmas.Bool.{cases_Bool, cond-true, cond-false, eqb-true, eq-eqb, ne_eqb, and_parts, and_from, both_ways, cases_lt, ltb-true, lt-ltb, false_from_ne_true}
-use Rattle.std.proofs.lemmas.List.{take-append-drop, take-append-le, take_all, drop-append-le, length-drop, length-take-le}
-use Rattle.std.proofs.Math.Seq.{drop-append-add}
-use Rattle.bib_spec.specs.Text.{Text, is_space, after_run, same, opened_before, closed_before, IsBalanced}
-use Rattle.bib_text.specs.Trimming.{trimmed}
-use Rattle.bib_names.specs.Places.{is_level, places_from, between, Stretch, stretch}
-use Rattle.bib_names.specs.NameList.{is_and, is_cut, cuts, names_of}
+use Rattle.ris_format.proofs.Words.{◌≡◌, ℕ, zero, suc, ◌+◌, ◌-◌, ◌≤◌, ◌<◌, true, false, cond, ◌&&◌, eqb, ltb, [], ◌∷◌, ◌++◌, length, take, drop, get_or, refl, sym, ap, subst, ◌∙◌, arith, ⊎_elim, inl, inr, ◌⊎◌, below_more, count_by, slice_range, list_all, prefix_len, AllByRecursion}
+use Rattle.ris_format.proofs.Words.{to_ascii_lowercase, cases_Bool, cond-true, cond-false, eqb-true, eq-eqb, ne_eqb, and_parts, and_from, both_ways, cases_lt, ltb-true, lt-ltb, false_from_ne_true, take-append-drop, take-append-le, take_all, drop-append-le, length-drop, length-take-le}
+use Rattle.ris_format.proofs.Words.{drop-append-add, Text, is_space, after_run, same, opened_before, closed_before, IsBalanced, trimmed, is_level, places_from, between, Stretch, stretch, is_and, is_cut, cuts, names_of, neat, has_bytes}
+use Rattle.std.proofs.Common.{List, map, lit<}
+use Rattle.std.specs.Prelude.{codes}
 use Rattle.bib_names.proofs.NameListLemmas.{space_within}
-use Rattle.bib_value.specs.Spacing.{neat}
-use Rattle.ris_format.specs.Lines.{has_bytes}
 use Rattle.ris_format.proofs.Trims.{cut_out, neat-cut}
 use Rattle.ris_format.proofs.Levels.{opens, closes, count-append, count-cons, count-before_run, count-after_run, space-no_brace, IsWithin, IsStretch, stretch-is, level-within, byte-within, balanced-within, level_at, take-sum}
 use Rattle.ris_format.proofs.PartLaws.{none-in}

@@ -1,10 +1,9 @@
 -- Steps of loops over the items of a list.
-use Rattle.std.proofs.Common.{◌≡◌, ◌∙◌, ℕ, ◌+◌, ◌-◌, ◌<◌, ◌≤◌, List, [], ◌∷◌, ◌++◌, length, map, take, drop, get_or, Bor, sym, ap, arith}
-use Rattle.std.specs.List.{flat_map, join_by}
-use Rattle.std.proofs.lemmas.List.{append_assoc, drop_all, take_all}
+use Rattle.ris_format.proofs.Words.{◌≡◌, ◌∙◌, ℕ, ◌+◌, ◌-◌, ◌<◌, ◌≤◌, [], ◌∷◌, ◌++◌, length, take, drop, get_or, Bor, sym, ap, arith, flat_map, join_by, drop_all, take_all, Text}
+use Rattle.std.proofs.Common.{List, map}
+use Rattle.std.proofs.lemmas.List.{append_assoc}
 use Rattle.std.proofs.Math.Numerals.{add-one}
 use Rattle.std.proofs.Math.Seq.{drop-cons}
-use Rattle.bib_spec.specs.Text.{Text}
 
 -- one that is kept
 pub kept_more : {A X : Type 0} (F : List A → List X) (xs : List A) (n : ℕ) (d : A) (y : X) (out all : List X)

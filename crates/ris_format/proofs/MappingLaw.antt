@@ -1,27 +1,16 @@
 -- A record of the profile is the same again after both mappings, and nothing of it is dropped.
-use Rattle.std.proofs.Common.{◌≡◌, Bool, true, false, cond, not, ◌&&◌, ◌||◌, List, [], ◌∷◌, ◌++◌, refl, sym, ap, ◌∙◌, ⊎_elim, map, append-nil}
-use Rattle.std.specs.Prelude.{filter, find, codes, unwrap_or, if◌then◌else◌}
-use Rattle.std.specs.List.{flat_map, list_any, list_all}
-use Rattle.std.specs.Str.{bytes_eq}
-use Rattle.std.proofs.lemmas.Bool.{cases_Bool, cond-true, cond-false, and_from, and_parts, and_right, not-true}
-use Rattle.bib_spec.specs.Text.{Text, is_new_key, is_new_key_byte}
-use Rattle.bib_spec.specs.Texts.{field_text}
-use Rattle.bib_spec.specs.Records.{Record, RecordField}
-use Rattle.bib_spec.proofs.Names.{eq-true}
+use Rattle.ris_format.proofs.Words.{◌≡◌, Bool, true, false, cond, ◌&&◌, ◌||◌, [], ◌∷◌, ◌++◌, refl, sym, ap, ◌∙◌, ⊎_elim, append-nil, find, if◌then◌else◌, flat_map, list_any, list_all, bytes_eq, cases_Bool, cond-true, cond-false, and_from, and_parts, and_right, not-true, Text, is_new_key, field_text}
+use Rattle.ris_format.proofs.Words.{Record, RecordField, eq-true, RisLine, Kind, Article, Book, Incollection, Inproceedings, Phdthesis, Techreport, Unpublished, Misc, ris_type, publisher_field, serial_field, is_article, is_entry_type, kind_of_entry, kind_of_ris, neat, has_bytes, single, Tagged}
+use Rattle.ris_format.proofs.Words.{tagged, lines_of, read_lines, values_at, value_at, written_people, read_people, has_slash, written_date, read_year, read_month, written_start, written_end, read_pages, written_keywords, read_keywords, Fields, field, text_of, booktitle_text, field_names}
+use Rattle.ris_format.proofs.Words.{written_fields, is_dropped, record_in, are_in_order, is_plain_field, neat-word}
+use Rattle.std.proofs.Common.{not, List, map}
+use Rattle.std.specs.Prelude.{filter, codes, unwrap_or}
+use Rattle.bib_spec.specs.Text.{is_new_key_byte}
 use Rattle.bib_spec.proofs.NewKeyBytes.{new_key_byte-plain}
-use Rattle.ris_text.specs.declared.records.RisLine.{RisLine}
-use Rattle.ris_format.specs.declared.kinds.Kind.{Kind}
-use Rattle.ris_format.specs.declared.kinds.Kind.TheVariants.{Article, Book, Incollection, Inproceedings, Phdthesis, Techreport, Unpublished, Misc}
-use Rattle.ris_format.specs.Kinds.{kinds, entry_type, ris_type, publisher_field, serial_field, is_article, is_entry_type, kind_of_entry, kind_of_ris}
-use Rattle.bib_value.specs.Spacing.{neat}
-use Rattle.ris_format.specs.Lines.{has_bytes, single, Tagged, tagged, lines_of, read_lines, values_at, value_at, or_else}
-use Rattle.ris_format.specs.People.{written_people, read_people}
-use Rattle.ris_format.specs.Dates.{has_slash, written_date, read_year, read_month}
-use Rattle.ris_format.specs.Pages.{written_start, written_end, read_pages}
-use Rattle.ris_format.specs.Keywords.{written_keywords, read_keywords}
-use Rattle.ris_format.specs.Mapping.{Fields, field, text_of, booktitle_text, later_names, field_names, written_fields, read_journal, read_fields, is_carried, is_dropped, record_in}
-use Rattle.ris_format.specs.Profile.{are_in_order, has_form, is_plain_field, ProfileIsKept}
-use Rattle.bib_value.proofs.NeatTexts.{neat-word}
+use Rattle.ris_format.specs.Kinds.{kinds, entry_type}
+use Rattle.ris_format.specs.Lines.{or_else}
+use Rattle.ris_format.specs.Mapping.{later_names, read_journal, read_fields, is_carried}
+use Rattle.ris_format.specs.Profile.{has_form, ProfileIsKept}
 use Rattle.ris_format.proofs.Neat.{neat-field_text}
 use Rattle.ris_format.proofs.Values.{first, are_neat, single-neat, first-single}
 use Rattle.ris_format.proofs.DateLaws.{DateIsKept, date_kept, month-written}

@@ -1,20 +1,13 @@
 -- The commas and the cuts of a name, from left to right.
-use Rattle.std.proofs.Common.{◌≡◌, ℕ, ◌+◌, ◌-◌, ◌≤◌, Bool, true, false, cond, not, ◌&&◌, eqb, ltb, List, [], ◌∷◌, ◌++◌, length, take, drop, get_or, refl, sym, ap, ◌∙◌, arith, ⊎_elim, append_assoc, append-nil, map, ◌==◌}
+use Rattle.ris_format.proofs.Words.{◌≡◌, ℕ, ◌+◌, ◌-◌, ◌≤◌, Bool, true, false, cond, ◌&&◌, eqb, ltb, [], ◌∷◌, ◌++◌, length, take, drop, get_or, refl, sym, ap, ◌∙◌, arith, ⊎_elim, append-nil, slice_range, list_all, onto_first, cases_Bool, cond-true, cond-false, eqb-true, eq-eqb, and_parts, and_from}
+use Rattle.ris_format.proofs.Words.{lt-ltb, take-append-le, take_all, drop-append-le, drop_all, get_or-append-add, length-drop, to_ascii_lowercase, Text, is_space, same, is_level, places_from, between, Stretch, is_and, is_cut, cuts, names_of, is_comma, commas, trimmed, one, pieces_from, with_front}
+use Rattle.ris_format.proofs.Words.{lacks_and}
+use Rattle.std.proofs.Common.{not, List, append_assoc, map, ◌==◌}
 use Rattle.std.specs.Prelude.{codes}
-use Rattle.std.specs.List.{slice_range, list_all, onto_first}
-use Rattle.std.proofs.lemmas.Bool.{cases_Bool, cond-true, cond-false, eqb-true, eq-eqb, and_parts, and_from, lt-ltb}
-use Rattle.std.proofs.lemmas.List.{take-append-le, take_all, drop-append-le, drop_all, get_or-append-add, length-drop, length_push}
+use Rattle.std.proofs.lemmas.List.{length_push}
 use Rattle.std.proofs.Math.Seq.{take-append_seam, drop-append_seam, get_or-append_seam}
-use Rattle.std.specs.Char.{to_ascii_lowercase}
 use Rattle.std.proofs.Math.Bool.{and-false, and_assoc}
-use Rattle.bib_spec.specs.Text.{Text, is_space, same}
-use Rattle.bib_names.specs.Places.{is_level, places_from, between, Stretch}
-use Rattle.bib_names.specs.NameList.{is_and, is_cut, cuts, names_of}
-use Rattle.bib_names.specs.Name.{is_comma, commas}
-use Rattle.bib_text.specs.Trimming.{trimmed}
 use Rattle.ris_format.proofs.Levels.{opens, closes, count-append, count-cons, eqb-shift}
-use Rattle.ris_format.specs.Pieces.{one, pieces_from, with_front}
-use Rattle.ris_format.specs.People.{lacks_and}
 use Rattle.ris_format.proofs.KeywordLaws.{front-onto}
 
 -- ---- one byte more before a place

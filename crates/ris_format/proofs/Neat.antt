@@ -1,12 +1,6 @@
 -- Field texts are neat, and so are parts of neat texts.
-use Rattle.std.proofs.Common.{◌≡◌, ℕ, Bool, true, false, not, [], ◌∷◌, ◌++◌, refl, sym, ap, ◌∙◌, ⊎_elim}
-use Rattle.std.proofs.lemmas.Bool.{cases_Bool, cond-true, not-true}
-use Rattle.bib_spec.specs.Text.{Text, is_space}
-use Rattle.bib_spec.specs.Texts.{field_text}
-use Rattle.bib_value.specs.Spacing.{neat}
-use Rattle.bib_value.proofs.FieldTextLemmas.{more_text, more_text-all}
-use Rattle.bib_value.proofs.NeatTexts.{neat-space, neat-word, neat-gap}
-use Rattle.ris_format.specs.Lines.{has_bytes}
+use Rattle.ris_format.proofs.Words.{◌≡◌, ℕ, Bool, true, false, [], ◌∷◌, ◌++◌, refl, sym, ap, ◌∙◌, ⊎_elim, cases_Bool, cond-true, not-true, Text, is_space, field_text, neat, more_text, more_text-all, neat-space, neat-word, neat-gap, has_bytes}
+use Rattle.std.proofs.Common.{not}
 
 -- ---- field texts are neat
 

@@ -1,13 +1,6 @@
 -- When a value of RIS would be read as another name than it says.
-use Rattle.std.proofs.Common.{◌≡◌, ℕ, ◌+◌, ◌≤◌, ◌<◌, true, false, ◌||◌, ltb, List, length, sym, ap, ◌∙◌, arith}
-use Rattle.std.proofs.lemmas.Bool.{or_left, lt-ltb, le-ltb}
-use Rattle.std.proofs.lemmas.List.{length-map}
-use Rattle.bib_spec.specs.Text.{Text}
-use Rattle.bib_text.specs.Trimming.{trimmed}
-use Rattle.bib_names.specs.NameList.{names_of}
-use Rattle.bib_names.specs.Name.{commas}
-use Rattle.ris_format.specs.Pieces.{pieces_from}
-use Rattle.ris_format.specs.People.{name_pieces, is_opaque}
+use Rattle.ris_format.proofs.Words.{◌≡◌, ℕ, ◌+◌, ◌≤◌, ◌<◌, true, false, ◌||◌, ltb, length, sym, ap, ◌∙◌, arith, or_left, lt-ltb, le-ltb, length-map, Text, trimmed, names_of, commas, pieces_from, name_pieces, is_opaque}
+use Rattle.std.proofs.Common.{List}
 use Rattle.ris_format.proofs.NameScans.{commas-count}
 use Rattle.ris_format.proofs.PeopleLaws.{name-pieces_are}
 

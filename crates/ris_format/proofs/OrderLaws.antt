@@ -1,16 +1,8 @@
 -- Fields in the order of a table are found again by the names of the table.
-use Rattle.std.proofs.Common.{◌≡◌, Bool, true, false, not, ◌&&◌, eqb, List, [], ◌∷◌, length, refl, sym, ap, ◌∙◌, ⊎_elim, map, arith}
+use Rattle.ris_format.proofs.Words.{◌≡◌, Bool, true, false, ◌&&◌, eqb, [], ◌∷◌, length, refl, sym, ap, ◌∙◌, ⊎_elim, arith, list_any, list_all, option_map_or, bytes_eq, cases_Bool, cond-true, cond-false, and_from, and_parts, and_left, or_parts, or_right, or_left, not-true, both_ways, ne_eqb, Text}
+use Rattle.ris_format.proofs.Words.{RecordField, eq-true, true-eq, has_bytes, Fields, is_filled, text_of, field, are_in_order, is_plain_field}
+use Rattle.std.proofs.Common.{not, List, map}
 use Rattle.std.specs.Prelude.{filter}
-use Rattle.std.specs.List.{list_any, list_all}
-use Rattle.std.specs.Option.{option_map_or}
-use Rattle.std.specs.Str.{bytes_eq}
-use Rattle.std.proofs.lemmas.Bool.{cases_Bool, cond-true, cond-false, and_from, and_parts, and_left, or_parts, or_right, or_left, not-true, both_ways, ne_eqb}
-use Rattle.bib_spec.specs.Text.{Text}
-use Rattle.bib_spec.specs.Records.{RecordField}
-use Rattle.bib_spec.proofs.Names.{eq-true, true-eq}
-use Rattle.ris_format.specs.Lines.{has_bytes}
-use Rattle.ris_format.specs.Mapping.{Fields, is_filled, text_of, field}
-use Rattle.ris_format.specs.Profile.{are_in_order, is_plain_field}
 
 -- no two of the names are the same
 abbrev pub are_distinct : List Text → Bool

@@ -1,13 +1,8 @@
 -- Pages of the profile are read back.
-use Rattle.std.proofs.Common.{◌≡◌, ℕ, suc, ◌+◌, ◌<◌, true, false, not, ◌&&◌, eqb, ltb, [], ◌∷◌, ◌++◌, length, take, drop, refl, sym, ap, ◌∙◌, arith, ⊎_elim, append_assoc, append-nil}
-use Rattle.std.specs.List.{prefix_len, list_all}
-use Rattle.std.proofs.lemmas.Bool.{cases_Bool, cond-true, cond-false, and_parts, and_from, and_right, or_left, or_cases, not-true, eqb-true, ltb-true, lt-ltb, le-ltb}
-use Rattle.std.proofs.lemmas.List.{drop_all}
-use Rattle.bib_spec.specs.Text.{Text, is_space}
-use Rattle.bib_spec.proofs.Names.{eq-true}
-use Rattle.bib_value.specs.Spacing.{neat}
-use Rattle.ris_format.specs.Lines.{has_bytes}
-use Rattle.ris_format.specs.Pages.{is_no_hyphen, begins_with_hyphen, before_dash, has_dash, before_cut, after_cut, is_margin, page, are_two, written_start, written_end, read_pages, is_plain_page, are_plain_pages}
+use Rattle.ris_format.proofs.Words.{◌≡◌, ℕ, suc, ◌+◌, ◌<◌, true, false, ◌&&◌, eqb, ltb, [], ◌∷◌, ◌++◌, length, take, drop, refl, sym, ap, ◌∙◌, arith, ⊎_elim, append-nil, prefix_len, list_all, cases_Bool, cond-true, cond-false, and_parts, and_from, and_right, or_left, or_cases, not-true, eqb-true}
+use Rattle.ris_format.proofs.Words.{ltb-true, lt-ltb, le-ltb, drop_all, Text, is_space, eq-true, neat, has_bytes, is_no_hyphen, before_dash, has_dash, before_cut, after_cut, is_margin, page, are_two, written_start, written_end, read_pages}
+use Rattle.std.proofs.Common.{not, append_assoc}
+use Rattle.ris_format.specs.Pages.{begins_with_hyphen, is_plain_page, are_plain_pages}
 use Rattle.ris_format.proofs.Trims.{neat-cut}
 use Rattle.ris_format.proofs.Values.{first, are_neat}
 

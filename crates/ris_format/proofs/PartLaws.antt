@@ -1,22 +1,17 @@
 -- The parts of a name as texts: where they begin and end.
-use Rattle.std.proofs.Common.{◌≡◌, ℕ, zero, suc, ◌+◌, ◌-◌, ◌≤◌, ◌<◌, Bool, true, false, cond, not, ◌||◌, eqb, List, [], ◌∷◌, ◌++◌, length, take, drop, get_or, refl, sym, ap, subst, ◌∙◌, arith, ⊎_elim, append_assoc, map, inl, inr, ◌⊎◌}
-use Rattle.std.specs.Prelude.{Some}
-use Rattle.std.specs.List.{slice_range, range_with_len, prefix_len, AllByRecursion}
-use Rattle.std.proofs.lemmas.Bool.{cases_Bool, cond-true, cond-false, eqb-true, eq-eqb, and_parts, and_from, not-true, not-false, or_cases, or_left, both_ways, cases_lt, false_from_ne_true, not_from_false}
-use Rattle.std.proofs.lemmas.List.{take-append-drop, take-append-le, take_all, drop-append-le, get_or-drop, get_or-take, length-drop, length-take-le}
+use Rattle.ris_format.proofs.Words.{◌≡◌, ℕ, zero, suc, ◌+◌, ◌-◌, ◌≤◌, ◌<◌, Bool, true, false, cond, ◌||◌, eqb, [], ◌∷◌, ◌++◌, length, take, drop, get_or, refl, sym, ap, subst, ◌∙◌, arith, ⊎_elim, inl, inr, ◌⊎◌, Some, slice_range, prefix_len, AllByRecursion, cases_Bool, cond-true, cond-false}
+use Rattle.ris_format.proofs.Words.{eqb-true, eq-eqb, and_parts, and_from, not-true, not-false, or_cases, or_left, both_ways, cases_lt, false_from_ne_true, not_from_false, take-append-drop, take-append-le, take_all, drop-append-le, get_or-drop, length-drop, length-take-le, drop-append-add, Text}
+use Rattle.ris_format.proofs.Words.{is_space, opened_before, closed_before, IsBalanced, up_to_last, is_level, places_from, between, Stretch, stretch, NameWord, is_comma, commas, parts_of, without_end, Name, has_bytes, words_end, part_text, family}
+use Rattle.std.proofs.Common.{not, List, append_assoc, map}
+use Rattle.std.specs.List.{range_with_len}
+use Rattle.std.proofs.lemmas.List.{get_or-take}
 use Rattle.std.proofs.lemmas.List.Sums.{prefix_len-le-length, prefix_len_passes, prefix_len_stops}
 use Rattle.std.proofs.lemmas.List.FromFn.{length-range_with_len, get_or-range_with_len}
-use Rattle.std.proofs.Math.Seq.{drop-append-add}
-use Rattle.bib_spec.specs.Text.{Text, is_space, opened_before, closed_before, IsBalanced}
 use Rattle.bib_names.specs.Marks.{is_separator, is_dropped_at_end}
-use Rattle.bib_text.specs.Trimming.{up_to_last}
-use Rattle.bib_names.specs.Places.{is_level, places, places_from, between, Stretch, stretch}
-use Rattle.bib_names.specs.Words.{NameWord, is_gap, begins_word, word_at, words_of}
-use Rattle.bib_names.specs.Name.{is_comma, commas, von_end, von_start, hyphened_start, cut_at, without_comma, with_commas, parts_of_pieces, parts_of, without_end}
-use Rattle.bib_names.specs.declared.name.Name.{Name}
+use Rattle.bib_names.specs.Places.{places}
+use Rattle.bib_names.specs.Words.{is_gap, begins_word, word_at, words_of}
+use Rattle.bib_names.specs.Name.{von_end, von_start, hyphened_start, cut_at, without_comma, with_commas, parts_of_pieces}
 use Rattle.bib_names.proofs.BraceLemmas.{opened_more, closed_more}
-use Rattle.ris_format.specs.Lines.{has_bytes}
-use Rattle.ris_format.specs.People.{words_end, part_text, family}
 use Rattle.ris_format.proofs.Neat.{begins_plain, ends_plain}
 use Rattle.ris_format.proofs.Levels.{opens, closes, space-no_brace, IsWithin, IsStretch, stretch-is, balanced-within, comma-within, count-before_run, all-stretches}
 

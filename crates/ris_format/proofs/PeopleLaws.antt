@@ -1,31 +1,17 @@
 -- Names of the profile are read back.
-use Rattle.std.proofs.Common.{◌≡◌, ℕ, zero, suc, ◌≤◌, Bool, true, false, cond, not, ◌&&◌, ◌||◌, ltb, List, [], ◌∷◌, ◌++◌, length, take, refl, sym, ap, ◌∙◌, arith, append_assoc, append-nil, map}
-use Rattle.std.specs.Prelude.{Option, Some, None, is_none}
-use Rattle.std.specs.List.{flat_map, list_any, list_all, onto_first, AllByRecursion}
-use Rattle.std.specs.Option.{option_map_or}
-use Rattle.std.specs.Str.{bytes_eq}
-use Rattle.std.proofs.lemmas.Bool.{cond-true, cond-false, and_parts, and_from, or_from, le-ltb}
-use Rattle.std.proofs.lemmas.List.{take_all}
-use Rattle.bib_spec.specs.Text.{Text, is_space, opened_before, closed_before, IsBalanced}
-use Rattle.bib_spec.proofs.Names.{eq-true}
+use Rattle.ris_format.proofs.Words.{◌≡◌, ℕ, zero, suc, ◌≤◌, Bool, true, false, cond, ◌&&◌, ◌||◌, ltb, [], ◌∷◌, ◌++◌, length, take, refl, sym, ap, ◌∙◌, arith, append-nil, Some, None, flat_map, list_any, list_all, onto_first, AllByRecursion, option_map_or, bytes_eq, cond-true, cond-false, and_parts}
+use Rattle.ris_format.proofs.Words.{and_from, or_from, le-ltb, take_all, Text, is_space, opened_before, closed_before, IsBalanced, eq-true, before_run, trimmed, between, Stretch, names_of, commas, parts_of, balances, Name, balances-yes, IsBalanced-from_test, neat, has_bytes, Person, person}
+use Rattle.ris_format.proofs.Words.{with_comma, ris_name, is_somebody, taken_apart, is_broken, is_refused, written_person, written_name, written_people, name_pieces, is_opaque, read_name, read_people, is_plain_name, neat-word, neat-gap, pieces_from}
+use Rattle.std.proofs.Common.{not, List, append_assoc, map}
+use Rattle.std.specs.Prelude.{Option, is_none}
 use Rattle.bib_spec.proofs.Balance.{balanced-append}
-use Rattle.bib_text.specs.Trimming.{before_run, trimmed}
-use Rattle.bib_names.specs.Places.{between, Stretch}
-use Rattle.bib_names.specs.NameList.{names_of}
-use Rattle.bib_names.specs.Name.{commas, parts_of}
-use Rattle.bib_names.specs.Label.{balances}
-use Rattle.bib_names.specs.declared.name.Name.{Name}
-use Rattle.bib_names.proofs.BalanceLaws.{balances-yes, IsBalanced-from_test}
-use Rattle.bib_value.specs.Spacing.{neat}
-use Rattle.ris_format.specs.Lines.{has_bytes}
-use Rattle.ris_format.specs.People.{Person, person, with_comma, ris_name, is_somebody, taken_apart, is_broken, is_refused, written_person, written_name, written_people, name_pieces, in_braces, or_braces, bib_name, person_of, is_opaque, read_name, name_list, read_people, is_plain_person, is_plain_name, are_plain_names}
-use Rattle.bib_value.proofs.NeatTexts.{neat-word, neat-gap, space_is}
+use Rattle.ris_format.specs.People.{in_braces, or_braces, bib_name, person_of, name_list, is_plain_person, are_plain_names}
+use Rattle.bib_value.proofs.NeatTexts.{space_is}
 use Rattle.ris_format.proofs.Neat.{neat-append, neat-slice}
 use Rattle.ris_format.proofs.Trims.{trimmed-neat, after_run-yes}
 use Rattle.ris_format.proofs.Values.{are_neat}
 use Rattle.ris_format.proofs.Levels.{opens, closes}
 use Rattle.ris_format.proofs.PartLaws.{IsPart, name-parts}
-use Rattle.ris_format.specs.Pieces.{pieces_from}
 use Rattle.ris_format.proofs.NameScans.{pieces-are, pieces-alone, pieces-comma, commas-count, free, free-is, free-one, free-comma, is_nil, comma-plain}
 use Rattle.ris_format.proofs.ListLaws.{IsListed, names-listed}
 

@@ -1,13 +1,9 @@
 -- The pieces between commas that are found after some places are passed.
-use Rattle.std.proofs.Common.{◌≡◌, ℕ, ◌+◌, ◌-◌, ◌≤◌, ◌<◌, Bool, true, false, cond, ◌&&◌, eqb, List, [], ◌∷◌, ◌++◌, length, take, drop, get_or, refl, sym, ap, ◌∙◌, arith, append_assoc, append-nil, map}
-use Rattle.std.specs.List.{slice_range, slice_split, onto_first}
-use Rattle.std.proofs.lemmas.Bool.{cond-true, cond-false, and_parts, eqb-true}
-use Rattle.std.proofs.lemmas.List.{take_all, drop_all, take_more, get_or-drop, length-drop, drop_more}
-use Rattle.bib_spec.specs.Text.{Text}
-use Rattle.bib_text.specs.Trimming.{trimmed}
-use Rattle.ris_format.specs.Pieces.{one, pieces_from, with_front}
-use Rattle.ris_format.specs.People.{name_pieces}
-use Rattle.ris_format.specs.Keywords.{is_comma_byte, keyword_pieces}
+use Rattle.ris_format.proofs.Words.{◌≡◌, ℕ, ◌+◌, ◌-◌, ◌≤◌, ◌<◌, Bool, true, false, cond, ◌&&◌, eqb, [], ◌∷◌, ◌++◌, length, take, drop, get_or, refl, sym, ap, ◌∙◌, arith, append-nil, slice_range, slice_split, onto_first, cond-true, cond-false, and_parts, eqb-true, take_all, drop_all, get_or-drop}
+use Rattle.ris_format.proofs.Words.{length-drop, Text, trimmed, one, pieces_from, with_front, name_pieces, is_comma_byte}
+use Rattle.std.proofs.Common.{List, append_assoc, map}
+use Rattle.std.proofs.lemmas.List.{take_more, drop_more}
+use Rattle.ris_format.specs.Keywords.{keyword_pieces}
 use Rattle.ris_format.proofs.KeywordLaws.{front-onto, front-split}
 use Rattle.ris_format.proofs.NameScans.{pieces-front}
 use Rattle.ris_format.proofs.PeopleLaws.{name-pieces_are}

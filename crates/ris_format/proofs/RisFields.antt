@@ -1,23 +1,10 @@
 -- RIS records are made of some fields alone.
-use Rattle.std.proofs.Common.{◌≡◌, ◌∙◌, Bool, true, List, [], ◌∷◌, ◌++◌, filter, Option, codes, refl, ap}
-use Rattle.std.specs.Prelude.{if◌then◌else◌}
-use Rattle.std.specs.List.{list_any}
-use Rattle.std.specs.Option.{option_map_or}
-use Rattle.std.proofs.lemmas.Bool.{and_parts}
-use Rattle.std.proofs.lemmas.Slice.Eq.{bytes_eq-Decides}
-use Rattle.std.specs.Str.{bytes_eq}
-use Rattle.bib_spec.specs.Text.{Text, same}
-use Rattle.bib_spec.specs.Records.{Record, RecordField}
+use Rattle.ris_format.proofs.Words.{◌≡◌, ◌∙◌, Bool, true, [], ◌∷◌, ◌++◌, refl, ap, if◌then◌else◌, list_any, option_map_or, and_parts, bytes_eq-Decides, bytes_eq, Text, same, Record, RecordField, Kind, Article, Book, Incollection, Inproceedings, Phdthesis, Techreport, Unpublished, Misc, ris_type}
+use Rattle.ris_format.proofs.Words.{kind_of_entry, is_article, publisher_field, serial_field, has_bytes, single, Tagged, tagged, lines_of, written_people, written_date, written_start, written_end, written_keywords, Fields, is_filled, text_of, written_titles, written_numbers, written_publishers}
+use Rattle.ris_format.proofs.Words.{written_notes, written_fields, ris}
+use Rattle.std.proofs.Common.{List, filter, Option, codes}
 use Rattle.bib_names.proofs.LabelFields.{find_filtered}
-use Rattle.ris_format.specs.declared.kinds.Kind.{Kind}
-use Rattle.ris_format.specs.declared.kinds.Kind.TheVariants.{Article, Book, Incollection, Inproceedings, Phdthesis, Techreport, Unpublished, Misc}
-use Rattle.ris_format.specs.Kinds.{ris_type, kind_of_entry, is_article, publisher_field, serial_field}
-use Rattle.ris_format.specs.Lines.{has_bytes, single, Tagged, tagged, lines_of}
-use Rattle.ris_format.specs.People.{written_people}
-use Rattle.ris_format.specs.Dates.{written_date}
-use Rattle.ris_format.specs.Pages.{written_start, written_end}
-use Rattle.ris_format.specs.Keywords.{written_keywords}
-use Rattle.ris_format.specs.Mapping.{Fields, is_filled, text_of, ris_names, written_names, written_titles, written_numbers, written_publishers, written_notes, written_fields, ris}
+use Rattle.ris_format.specs.Mapping.{ris_names, written_names}
 
 -- the name is one of a field that a record of some kind can have, whatever its case
 abbrev is_sought : Text → Bool

@@ -1,14 +1,8 @@
 -- Lines and fields that are put after others, one after another.
-use Rattle.std.proofs.Common.{◌≡◌, List, [], ◌∷◌, ◌++◌, refl, sym, ap, ◌∙◌, append_assoc, append-nil}
+use Rattle.ris_format.proofs.Words.{◌≡◌, [], ◌∷◌, ◌++◌, refl, sym, ap, ◌∙◌, append-nil, flat_map, filter-append, Text, RecordField, RisLine, Tagged, tagged_lines, lines_of, Fields, field, has_text}
+use Rattle.std.proofs.Common.{List, append_assoc}
 use Rattle.std.specs.Prelude.{filter}
-use Rattle.std.specs.List.{flat_map}
 use Rattle.std.proofs.lemmas.Grind.{flat_map-append}
-use Rattle.std.proofs.lemmas.List.Elements.{filter-append}
-use Rattle.bib_spec.specs.Text.{Text}
-use Rattle.bib_spec.specs.Records.{RecordField}
-use Rattle.ris_text.specs.declared.records.RisLine.{RisLine}
-use Rattle.ris_format.specs.Lines.{Tagged, tagged_lines, lines_of}
-use Rattle.ris_format.specs.Mapping.{Fields, field, has_text}
 
 -- ---- lines, each kept as a list of members
 

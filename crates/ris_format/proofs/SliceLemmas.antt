@@ -1,9 +1,7 @@
 -- Slices that are cut where the text ends.
-use Rattle.std.proofs.Common.{◌≡◌, ℕ, ◌-◌, ◌<◌, List, [], ◌∷◌, ◌++◌, length, get_or, refl, sym, ap, ◌∙◌, arith}
-use Rattle.std.specs.List.{slice_range}
-use Rattle.bib_spec.specs.Text.{Text}
-use Rattle.bib_names.specs.Words.{NameWord}
-use Rattle.ris_format.specs.People.{word_end, words_end, to_last_end, part_text, family}
+use Rattle.ris_format.proofs.Words.{◌≡◌, ℕ, ◌-◌, ◌<◌, [], ◌∷◌, ◌++◌, length, get_or, refl, sym, ap, ◌∙◌, arith, slice_range, Text, NameWord, words_end, to_last_end, part_text, family}
+use Rattle.std.proofs.Common.{List}
+use Rattle.ris_format.specs.People.{word_end}
 
 -- where words end, by the last of them
 pub words_end-last : (word : NameWord) (words : List NameWord) (d : NameWord) → words_end word words ≡ word_end (get_or (word ∷ words) (length words) d)

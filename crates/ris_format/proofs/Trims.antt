@@ -1,12 +1,7 @@
 -- Texts without some bytes at their ends, as parts of the whole.
-use Rattle.std.proofs.Common.{◌≡◌, ℕ, suc, ◌+◌, Bool, true, false, cond, not, ◌||◌, [], ◌∷◌, ◌++◌, take, drop, refl, sym, ap, ◌∙◌, arith, ⊎_elim, append_assoc}
-use Rattle.std.proofs.lemmas.Bool.{cases_Bool, both_ways, not-true, or_right}
-use Rattle.std.proofs.lemmas.List.{take-append-drop}
-use Rattle.std.specs.List.{prefix_len, list_any}
-use Rattle.bib_spec.specs.Text.{Text, is_space, after_run}
-use Rattle.bib_text.specs.Trimming.{up_to_last, before_run, trimmed}
-use Rattle.bib_value.specs.Spacing.{neat}
-use Rattle.ris_format.specs.Lines.{has_bytes}
+use Rattle.ris_format.proofs.Words.{◌≡◌, ℕ, suc, ◌+◌, Bool, true, false, cond, ◌||◌, [], ◌∷◌, ◌++◌, take, drop, refl, sym, ap, ◌∙◌, arith, ⊎_elim, cases_Bool, both_ways, not-true, or_right, take-append-drop, prefix_len, list_any, Text, is_space, after_run, up_to_last, before_run, trimmed, neat}
+use Rattle.ris_format.proofs.Words.{has_bytes}
+use Rattle.std.proofs.Common.{not, append_assoc}
 use Rattle.ris_format.proofs.Neat.{begins_plain, ends_plain, neat-slice, neat-begins, neat-ends}
 
 -- the first byte, if there is one, fails the test

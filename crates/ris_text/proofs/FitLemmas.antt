@@ -1,13 +1,10 @@
 -- Texts that fit a line.
-use Rattle.std.proofs.Common.{◌≡◌, ℕ, suc, ◌≤◌, Bool, false, [], ◌∷◌, ◌++◌, length, refl, ap, ◌∙◌, arith}
+use Rattle.ris_text.proofs.Words.{◌≡◌, ℕ, suc, ◌≤◌, Bool, false, [], ◌∷◌, ◌++◌, length, refl, ap, ◌∙◌, arith, list_any, and_from, not-true, take_all, bytes_eq-Decides, Text, is_space, before_run, trimmed, ends_line, fits_line}
 use Rattle.std.specs.Prelude.{not, bytes_eq}
-use Rattle.std.specs.List.{list_any}
-use Rattle.std.proofs.lemmas.Bool.{and_from, not_from_false, not-true}
-use Rattle.std.proofs.lemmas.List.{take_all, length-append}
-use Rattle.std.proofs.lemmas.Slice.Eq.{bytes_eq-Decides}
-use Rattle.bib_spec.specs.Text.{Text, is_space, after_run}
-use Rattle.bib_text.specs.Trimming.{up_to_last, before_run, trimmed}
-use Rattle.ris_text.specs.Writing.{ends_line, fits_line}
+use Rattle.std.proofs.lemmas.Bool.{not_from_false}
+use Rattle.std.proofs.lemmas.List.{length-append}
+use Rattle.bib_spec.specs.Text.{after_run}
+use Rattle.bib_text.specs.Trimming.{up_to_last}
 use Rattle.ris_text.specs.Laws.{IsBare, BareTextsFit}
 use Rattle.bib_text.proofs.TrimLemmas.{up_to_last-snoc-yes}
 

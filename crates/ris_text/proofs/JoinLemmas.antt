@@ -1,13 +1,8 @@
 -- Values that continue over several lines.
-use Rattle.std.proofs.Common.{◌≡◌, ◌<◌, true, false, List, [], ◌∷◌, ◌++◌, length, refl, sym, ap, ◌∙◌, arith, append-nil, append_assoc, inl, inr}
-use Rattle.std.specs.Prelude.{not, filter, ◌⊎◌, Result, Ok, Err, is_ok, if◌then◌else◌, IfOk}
+use Rattle.ris_text.proofs.Words.{◌≡◌, ◌<◌, true, false, [], ◌∷◌, ◌++◌, length, refl, sym, ap, ◌∙◌, arith, append-nil, append_assoc, inl, inr, ◌⊎◌, Ok, Err, if◌then◌else◌, space, Text, is_empty, Line, is_untagged, joined, continues, continuation, after_continuation}
+use Rattle.std.proofs.Common.{List}
+use Rattle.std.specs.Prelude.{not, filter, Result, is_ok, IfOk}
 use Rattle.std.specs.List.{join_with_byte}
-use Rattle.bib_spec.specs.Bytes.{space}
-use Rattle.bib_spec.specs.Text.{Text}
-use Rattle.bib_spec.specs.Texts.{is_empty}
-use Rattle.ris_text.specs.Lines.{Line, is_untagged}
-use Rattle.ris_text.specs.Trees.{joined}
-use Rattle.ris_text.specs.Code.{continues, continuation, after_continuation}
 
 -- what a call gives that succeeds
 pub if_ok : {U F : Type 0} (r : Result U F) (new ok err given : Text) → new ≡ (if is_ok r then ok else err) → ok ≡ given → IfOk r (λ u. new ≡ given)

@@ -1,4 +1,5 @@
 -- ---- lines
+pub mod Words
 pub mod LineLemmas
 pub mod LineEnds
 pub mod TagLemmas

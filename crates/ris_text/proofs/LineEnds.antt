@@ -1,19 +1,14 @@
 -- Where a line ends, and whether it has a tag, told without looking for its end.
-use Rattle.std.proofs.Common.{◌≡◌, ℕ, zero, suc, ◌+◌, ◌≤◌, ◌<◌, Bool, true, false, not, ◌&&◌, ◌==◌, [], ◌∷◌, length, cond, take, drop, min, get_or, refl, sym, ap, ◌∙◌, arith, inl, inr}
+use Rattle.ris_text.proofs.Words.{◌≡◌, ℕ, suc, ◌+◌, ◌≤◌, ◌<◌, Bool, true, false, [], ◌∷◌, length, take, drop, min, get_or, refl, sym, ap, ◌∙◌, arith, inl, inr, cases_lt, eqb-true, length-take, line_feed, Text, is_empty, trimmed, Begin, End, Known, Other, Blank, Untagged, line_at, line_texts}
+use Rattle.ris_text.proofs.Words.{lines_from, is_untagged, begin_tag, end_tag, is_tag, is_known, is_rule, has_tag, tag_class, continues}
+use Rattle.std.proofs.Common.{zero, not, ◌&&◌, ◌==◌, cond}
 use Rattle.std.specs.Str.{bytes_eq}
 use Rattle.std.proofs.Math.Bool.{and-false}
-use Rattle.std.proofs.lemmas.Bool.{cases_lt, eqb-true, false≢true, not-false}
-use Rattle.std.proofs.lemmas.List.{length-take, get_or-take}
+use Rattle.std.proofs.lemmas.Bool.{false≢true, not-false}
+use Rattle.std.proofs.lemmas.List.{get_or-take}
 use Rattle.std.proofs.lemmas.List.Sums.{prefix_len_passes, prefix_len_stops, prefix_len-le-length}
 use Rattle.memchr.specs.Find.{NoneBefore, Nowhere, Passes, is_byte}
-use Rattle.bib_spec.specs.Bytes.{line_feed}
-use Rattle.bib_spec.specs.Text.{Text}
-use Rattle.bib_spec.specs.Texts.{is_empty}
-use Rattle.bib_text.specs.Trimming.{trimmed}
-use Rattle.ris_text.specs.declared.lines.Class.TheVariants.{Begin, End, Known, Other, Blank, Untagged}
-use Rattle.ris_text.specs.Lines.{line_at, tag_line, plain_line, line_texts, lines_from, is_untagged}
-use Rattle.ris_text.specs.Tags.{begin_tag, end_tag, is_tag, is_known, is_rule, has_tag, tag_class}
-use Rattle.ris_text.specs.Code.{continues}
+use Rattle.ris_text.specs.Lines.{tag_line, plain_line}
 use Rattle.ris_text.proofs.LineLemmas.{line_len, first_line}
 use Rattle.ris_text.proofs.TagLemmas.{tagged_by, untagged_since}
 

@@ -1,13 +1,8 @@
 -- The first line of a text, and the lines after it.
-use Rattle.std.proofs.Common.{◌≡◌, ℕ, suc, ◌+◌, ◌≤◌, ◌<◌, true, false, List, [], ◌∷◌, length, take, drop, min, refl, sym, ap, ◌∙◌, arith, inl, inr}
+use Rattle.ris_text.proofs.Words.{◌≡◌, ℕ, suc, ◌+◌, ◌≤◌, ◌<◌, true, false, [], ◌∷◌, length, take, drop, min, refl, sym, ap, ◌∙◌, arith, inl, inr, prefix_len, cases_Bool, cases_lt, take_all, length-take, line_feed, Text, onto_first, Line, line_at, line_texts, lines_from, lines_of, mark_len}
+use Rattle.std.proofs.Common.{List}
 use Rattle.std.specs.Prelude.{not, ◌==◌}
-use Rattle.std.specs.List.{prefix_len}
-use Rattle.std.proofs.lemmas.Bool.{cases_Bool, cases_lt}
-use Rattle.std.proofs.lemmas.List.{take_all, drop_all, drop-drop, length-take, length-drop}
-use Rattle.bib_spec.specs.Bytes.{line_feed}
-use Rattle.bib_spec.specs.Text.{Text}
-use Rattle.bib_spec.specs.Texts.{onto_first}
-use Rattle.ris_text.specs.Lines.{Line, line_at, line_texts, lines_from, lines_of, mark_len}
+use Rattle.std.proofs.lemmas.List.{drop_all, drop-drop, length-drop}
 
 -- how many bytes are before the first line feed
 abbrev pub line_len : Text → ℕ

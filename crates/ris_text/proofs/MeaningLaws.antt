@@ -1,20 +1,11 @@
 -- Lines say one thing, or go wrong in one way.
-use Rattle.std.proofs.Common.{◌≡◌, ℕ, true, false, List, [], ◌∷◌, ◌++◌, length, refl, sym, ap, ◌∙◌, append-nil, append_assoc, inl, inr, subst}
-use Rattle.std.specs.Prelude.{◌⊎◌, Ok, Err}
-use Rattle.std.specs.List.{list_all, flat_map}
-use Rattle.std.proofs.lemmas.Bool.{and_from, cases_Bool}
-use Rattle.bib_spec.specs.Text.{Text}
-use Rattle.bib_spec.specs.Texts.{is_empty}
-use Rattle.ris_text.specs.declared.lines.Class.{Class}
-use Rattle.ris_text.specs.declared.lines.Class.TheVariants.{Begin, End, Known, Other, Blank, Untagged}
-use Rattle.ris_text.specs.declared.records.RisFile.{RisFile}
-use Rattle.ris_text.specs.declared.fault.RisFault.{RisFault}
-use Rattle.ris_text.specs.declared.fault.RisFault.TheVariants.{NoStart, NoEnd, EmptyType}
-use Rattle.ris_text.specs.Lines.{Line, lines_of, is_untagged}
-use Rattle.ris_text.specs.Trees.{Paragraph, paragraph_lines, all_untagged, is_inner, is_inner_paragraph, Begun, IsBegun, begun_lines, record_of, Block, block_lines, none, more, Tree, IsTree, tree_lines, file_of}
-use Rattle.ris_text.specs.Reading.{Says, GoesWrong, Reads, IsFaultOf, IsWrong, inner, ends, begins_again, unended, untyped}
+use Rattle.ris_text.proofs.Words.{◌≡◌, ℕ, true, false, [], ◌∷◌, ◌++◌, length, refl, sym, ap, ◌∙◌, append-nil, append_assoc, inl, inr, subst, ◌⊎◌, Ok, Err, list_all, flat_map, and_from, cases_Bool, Text, is_empty, Class, Begin, End, Known, Other, Blank, Untagged, RisFile, RisFault, NoStart, NoEnd}
+use Rattle.ris_text.proofs.Words.{EmptyType, Line, lines_of, is_untagged, Paragraph, paragraph_lines, all_untagged, is_inner, is_inner_paragraph, Begun, IsBegun, begun_lines, record_of, Block, block_lines, more, Tree, IsTree, tree_lines, file_of, Says, GoesWrong, Reads, IsWrong, inner, ends}
+use Rattle.ris_text.proofs.Words.{begins_again, unended, untyped, told}
+use Rattle.std.proofs.Common.{List}
+use Rattle.ris_text.specs.Trees.{none}
+use Rattle.ris_text.specs.Reading.{IsFaultOf}
 use Rattle.ris_text.specs.Laws.{SaysOrGoesWrong, SaysOne, OneFault, WrongSaysNothing}
-use Rattle.ris_text.specs.Code.{told}
 use Rattle.ris_text.proofs.MeaningLemmas.{told_if_says, told_if_goes_wrong}
 
 -- ---- one meaning

@@ -1,22 +1,12 @@
 -- What the lines of a tree say, line by line.
-use Rattle.std.proofs.Common.{◌≡◌, ℕ, suc, ◌+◌, Bool, true, false, List, [], ◌∷◌, ◌++◌, map, refl, sym, ap, ◌∙◌, arith, append-nil, append_assoc, zero-add, add-zero}
-use Rattle.std.specs.Prelude.{if◌then◌else◌, Ok, Err, Option, Some, None, filter_map, count_by, sum_by}
-use Rattle.std.specs.List.{list_all, flat_map, cons_option}
-use Rattle.std.proofs.lemmas.Bool.{and_parts}
+use Rattle.ris_text.proofs.Words.{◌≡◌, ℕ, suc, ◌+◌, Bool, true, false, [], ◌∷◌, ◌++◌, map, refl, sym, ap, ◌∙◌, arith, append-nil, append_assoc, if◌then◌else◌, Ok, Err, list_all, flat_map, and_parts, Text, is_empty, Class, Begin, End, Known, Other, Blank, Untagged, RisLine, RisRecord, RisFile}
+use Rattle.ris_text.proofs.Words.{RisFault, NoStart, NoEnd, EmptyType, Line, is_untagged, joined, Paragraph, paragraph_lines, all_untagged, is_inner, is_inner_paragraph, Begun, IsBegun, begun_lines, record_of, Block, block_lines, more, Tree, IsTree, tree_lines, file_of, Says, GoesWrong, IsWrong}
+use Rattle.ris_text.proofs.Words.{inner, ends, begins_again, unended, untyped, continuation, Outcome, Inside, inside, Told, told, told_inner, ris_file, ris_line, ris_record, with_skipped, with_record, with_front, whole_record}
+use Rattle.std.proofs.Common.{List, zero-add, add-zero}
+use Rattle.std.specs.Prelude.{Option, Some, None, filter_map, count_by, sum_by}
+use Rattle.std.specs.List.{cons_option}
 use Rattle.std.proofs.lemmas.List.Sums.{sum_by-cons}
-use Rattle.bib_spec.specs.Text.{Text}
-use Rattle.bib_spec.specs.Texts.{is_empty}
-use Rattle.ris_text.specs.declared.lines.Class.{Class}
-use Rattle.ris_text.specs.declared.lines.Class.TheVariants.{Begin, End, Known, Other, Blank, Untagged}
-use Rattle.ris_text.specs.declared.records.RisLine.{RisLine}
-use Rattle.ris_text.specs.declared.records.RisRecord.{RisRecord}
-use Rattle.ris_text.specs.declared.records.RisFile.{RisFile}
-use Rattle.ris_text.specs.declared.fault.RisFault.{RisFault}
-use Rattle.ris_text.specs.declared.fault.RisFault.TheVariants.{NoStart, NoEnd, EmptyType}
-use Rattle.ris_text.specs.Lines.{Line, is_untagged}
-use Rattle.ris_text.specs.Trees.{joined, Paragraph, paragraph_lines, value_of, all_untagged, is_inner, is_inner_paragraph, line_with, kept_line, is_other, Begun, IsBegun, begun_lines, record_of, skipped_inside, Block, IsBlock, block_lines, AreBlocks, more, Tree, IsTree, tree_lines, is_counted, skipped_outside, skipped_by, file_of}
-use Rattle.ris_text.specs.Reading.{Says, GoesWrong, IsWrong, inner, ends, begins_again, unended, untyped}
-use Rattle.ris_text.specs.Code.{continuation, Outcome, Inside, inside, Told, told, told_inner, ris_file, ris_line, ris_record, with_skipped, with_record, with_front, whole_record}
+use Rattle.ris_text.specs.Trees.{value_of, line_with, kept_line, is_other, skipped_inside, IsBlock, AreBlocks, is_counted, skipped_outside, skipped_by}
 use Rattle.ris_text.proofs.ToldLemmas.{told-class}
 
 -- ---- lines that continue a value

@@ -1,11 +1,7 @@
 -- What is left of a file after some of its records.
-use Rattle.std.proofs.Common.{◌≡◌, ◌+◌, List, [], ◌∷◌, ◌++◌, length, refl, sym, ap, ◌∙◌, append_assoc}
-use Rattle.std.specs.Prelude.{Ok, Err}
-use Rattle.bib_spec.specs.Text.{Text}
-use Rattle.ris_text.specs.declared.records.RisRecord.{RisRecord}
-use Rattle.ris_text.specs.Lines.{Line, lines_of}
-use Rattle.ris_text.specs.Code.{Outcome, told, ris_file, with_record, with_front}
-use Rattle.ris_text.specs.Rest.{Rest, rest_of, IsLeft}
+use Rattle.ris_text.proofs.Words.{◌≡◌, ◌+◌, [], ◌∷◌, ◌++◌, length, refl, sym, ap, ◌∙◌, append_assoc, Ok, Err, Text, RisRecord, Line, lines_of, Outcome, told, ris_file, with_record, with_front, rest_of, IsLeft}
+use Rattle.std.proofs.Common.{List}
+use Rattle.ris_text.specs.Rest.{Rest}
 use Rattle.ris_text.proofs.MeaningLemmas.{with_front-none}
 use Rattle.ris_text.proofs.MeaningLaws.{reads_if_told, fault_if_told}
 

@@ -1,24 +1,13 @@
 -- The text of well-formed records says them.
-use Rattle.std.proofs.Common.{◌≡◌, ℕ, suc, ◌+◌, Bool, true, false, List, [], ◌∷◌, ◌++◌, length, drop, map, refl, sym, ap, ◌∙◌, arith, append_assoc, inl, inr}
-use Rattle.std.specs.Prelude.{◌&&◌, not, ◌==◌, Ok, bytes_eq}
-use Rattle.std.specs.List.{list_all, list_any, flat_map, prefix_len}
-use Rattle.std.proofs.lemmas.Bool.{and_parts, or_parts, or_cases, not-true}
-use Rattle.std.proofs.lemmas.Slice.Eq.{bytes_eq-Decides}
-use Rattle.std.proofs.lemmas.Grind.{flat_map-append}
-use Rattle.bib_spec.specs.Bytes.{space, line_feed}
-use Rattle.bib_spec.specs.Text.{Text, is_space}
-use Rattle.bib_spec.specs.Texts.{is_empty, onto_first}
-use Rattle.ris_text.specs.declared.lines.Class.{Class}
-use Rattle.ris_text.specs.declared.lines.Class.TheVariants.{Begin, End, Known}
-use Rattle.ris_text.specs.declared.records.RisLine.{RisLine}
-use Rattle.ris_text.specs.declared.records.RisRecord.{RisRecord}
-use Rattle.bib_text.specs.Trimming.{before_run, trimmed}
-use Rattle.ris_text.specs.Tags.{begin_tag, end_tag, known_tags, is_known, is_tag, has_tag, tag_class}
-use Rattle.ris_text.specs.Lines.{Line, line_at, line_texts, lines_from, lines_of, mark_len, is_untagged}
-use Rattle.ris_text.specs.Trees.{joined}
-use Rattle.ris_text.specs.Writing.{written, written_lines, ended, record_text, ris_text, ends_line, fits_line, is_well_formed_line, is_well_formed, AreWellFormed}
-use Rattle.ris_text.specs.Laws.{just, TextSaysRecords, TextSaysNothingElse, TextIsNotWrong}
-use Rattle.ris_text.specs.Code.{continuation, Outcome, Inside, inside, Told, told, told_inner, with_skipped, with_record, whole_record, ris_line}
+use Rattle.ris_text.proofs.Words.{◌≡◌, ℕ, suc, ◌+◌, Bool, true, false, [], ◌∷◌, ◌++◌, length, drop, map, refl, sym, ap, ◌∙◌, arith, append_assoc, inl, inr, Ok, list_all, list_any, flat_map, prefix_len, and_parts, not-true, bytes_eq-Decides, flat_map-append, space, line_feed, Text, is_space}
+use Rattle.ris_text.proofs.Words.{is_empty, onto_first, Class, Begin, End, Known, RisLine, RisRecord, before_run, trimmed, begin_tag, end_tag, is_known, is_tag, has_tag, tag_class, Line, line_at, line_texts, lines_from, lines_of, mark_len, is_untagged, joined, written, ended, record_text, ris_text}
+use Rattle.ris_text.proofs.Words.{ends_line, fits_line, just, continuation, Outcome, Inside, inside, Told, told, told_inner, with_skipped, with_record, whole_record, ris_line}
+use Rattle.std.proofs.Common.{List}
+use Rattle.std.specs.Prelude.{◌&&◌, not, ◌==◌, bytes_eq}
+use Rattle.std.proofs.lemmas.Bool.{or_parts, or_cases}
+use Rattle.ris_text.specs.Tags.{known_tags}
+use Rattle.ris_text.specs.Writing.{written_lines, is_well_formed_line, is_well_formed, AreWellFormed}
+use Rattle.ris_text.specs.Laws.{TextSaysRecords, TextSaysNothingElse, TextIsNotWrong}
 use Rattle.ris_text.proofs.JoinLemmas.{joined-none}
 use Rattle.ris_text.proofs.ToldLemmas.{told-class}
 use Rattle.ris_text.proofs.MeaningLemmas.{tagged_stops}

@@ -1,17 +1,8 @@
 -- What lines say, line by line.
-use Rattle.std.proofs.Common.{◌≡◌, ℕ, ◌+◌, ◌≤◌, Bool, true, false, List, [], ◌∷◌, ◌++◌, length, refl, sym, ap, ◌∙◌, arith, append_assoc}
-use Rattle.std.specs.Prelude.{if◌then◌else◌, Ok, Err}
-use Rattle.bib_spec.specs.Text.{Text}
-use Rattle.bib_spec.specs.Texts.{is_empty}
-use Rattle.ris_text.specs.declared.lines.Class.{Class}
-use Rattle.ris_text.specs.declared.lines.Class.TheVariants.{Begin, End, Known, Other, Blank, Untagged}
-use Rattle.ris_text.specs.declared.records.RisLine.{RisLine}
-use Rattle.ris_text.specs.declared.records.RisRecord.{RisRecord}
-use Rattle.ris_text.specs.declared.fault.RisFault.{RisFault}
-use Rattle.ris_text.specs.declared.fault.RisFault.TheVariants.{EmptyType}
-use Rattle.ris_text.specs.Lines.{Line, is_untagged}
-use Rattle.ris_text.specs.Trees.{joined}
-use Rattle.ris_text.specs.Code.{continuation, after_continuation, Outcome, Inside, inside, Told, told_by, told, told_inner, ris_file, ris_line, ris_record, with_skipped, with_record, with_front, whole_record, record_told}
+use Rattle.ris_text.proofs.Words.{◌≡◌, ℕ, ◌+◌, ◌≤◌, Bool, true, false, [], ◌∷◌, ◌++◌, length, refl, sym, ap, ◌∙◌, arith, append_assoc, if◌then◌else◌, Ok, Err, Text, is_empty, Class, Begin, End, Known, Other, Blank, Untagged, RisLine, RisRecord, RisFault, EmptyType, Line, is_untagged, joined}
+use Rattle.ris_text.proofs.Words.{continuation, after_continuation, Outcome, Inside, inside, Told, told, told_inner, ris_file, ris_line, ris_record, with_skipped, with_record, with_front, whole_record}
+use Rattle.std.proofs.Common.{List}
+use Rattle.ris_text.specs.Code.{told_by, record_told}
 
 -- what lines say whose first has this class
 pub told-class : (end : ℕ) (line : Line) (lines : List Line) (class : Class) → line.class ≡ class → told end (line ∷ lines) ≡ told_by line lines class (told end lines)

@@ -1,14 +1,8 @@
 -- The text of lines, one after another.
-use Rattle.std.proofs.Common.{◌≡◌, ℕ, ◌+◌, ◌≤◌, ◌<◌, List, [], ◌∷◌, ◌++◌, length, take, get_or, map, refl, sym, ap, ◌∙◌, arith, append-nil, append_assoc, length-append}
-use Rattle.std.specs.List.{flat_map}
+use Rattle.ris_text.proofs.Words.{◌≡◌, ℕ, ◌+◌, ◌≤◌, ◌<◌, [], ◌∷◌, ◌++◌, length, take, get_or, map, refl, sym, ap, ◌∙◌, arith, append-nil, append_assoc, flat_map, flat_map-append, Text, RisLine, RisRecord, begin_tag, end_tag, written, ended, record_text}
+use Rattle.std.proofs.Common.{List, length-append}
 use Rattle.std.proofs.lemmas.List.{take_more, flat_map_more, take-take, take_at}
-use Rattle.std.proofs.lemmas.Grind.{flat_map-append}
 use Rattle.std.proofs.lemmas.List.Folds.{flat_map-map}
-use Rattle.bib_spec.specs.Text.{Text}
-use Rattle.ris_text.specs.declared.records.RisLine.{RisLine}
-use Rattle.ris_text.specs.declared.records.RisRecord.{RisRecord}
-use Rattle.ris_text.specs.Tags.{begin_tag, end_tag}
-use Rattle.ris_text.specs.Writing.{written, ended, record_text}
 
 -- a text at the front of a longer one is at the front of each text that begins with the longer one
 pub front_stands : (text now more new : Text) → now ≡ text ++ more → take (length now) new ≡ now → take (length text) new ≡ text

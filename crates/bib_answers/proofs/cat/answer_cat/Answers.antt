@@ -1,5 +1,4 @@
-use Rattle.std.proofs.lemmas.Result.{IfOk-weaker}
-use Rattle.bib_spec.specs.Fault.{IsReadFault}
+use Rattle.bib_answers.proofs.Words.{IfOk-weaker, IsReadFault}
 use Rattle.bib_answers.specs.Cat.{copied}
 use Rattle.bib_answers.proofs.Refusals.{cat_refused}
 use Rattle.bib_answers.proofs.cat.answer_cat.Goals as goal

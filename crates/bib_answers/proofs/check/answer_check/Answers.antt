@@ -1,4 +1,4 @@
-use Rattle.std.proofs.Common.{rules}
+use Rattle.bib_answers.proofs.Words.{rules}
 use Rattle.bib_answers.specs.Check.{check_answer}
 use Rattle.bib_answers.proofs.check.answer_check.Goals as goal
 

@@ -1,4 +1,4 @@
-use Rattle.std.proofs.Common.{refl}
+use Rattle.bib_answers.proofs.Words.{refl}
 use Rattle.bib_answers.proofs.check.check.Goals as goal
 
 pub returns : goal.returns

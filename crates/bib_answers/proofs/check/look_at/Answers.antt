@@ -1,8 +1,4 @@
-use Rattle.std.proofs.Common.{[], ◌∙◌, sym, ap}
-use Rattle.bib_spec.specs.Tree.{is_comment}
-use Rattle.bib_scan.specs.View.{View}
-use Rattle.bib_definitions.specs.Definitions.{is_definition_tree}
-use Rattle.bib_answers.specs.Check.{reports_on}
+use Rattle.bib_answers.proofs.Words.{[], ◌∙◌, sym, ap, is_comment, View, is_definition_tree, reports_on}
 use Rattle.bib_answers.proofs.ReportSteps.{items_more}
 use Rattle.bib_answers.proofs.ItemCounts.{entries_counted, items_counted, counted_small}
 use Rattle.bib_answers.proofs.check.look_at.Goals as goal

@@ -1,6 +1,5 @@
-use Rattle.std.proofs.Common.{◌∙◌, arith}
-use Rattle.bib_spec.specs.Tree.{is_comment}
-use Rattle.bib_definitions.specs.Definitions.{is_definition_tree}
+use Rattle.bib_answers.proofs.Words.{◌∙◌, is_comment, is_definition_tree}
+use Rattle.std.proofs.Common.{arith}
 use Rattle.bib_answers.proofs.ItemCounts.{counted_all}
 use Rattle.bib_answers.proofs.check.look_through.Goals as goal
 

@@ -1,5 +1,4 @@
-use Rattle.std.proofs.Common.{◌≡◌, ◌++◌, take}
-use Rattle.std.specs.List.{flat_map}
+use Rattle.bib_answers.proofs.Words.{◌≡◌, ◌++◌, take, flat_map}
 use Rattle.bib_answers.specs.Cite.{unknown_line}
 use Rattle.bib_answers.proofs.cite.add_unknown.Given as goal
 

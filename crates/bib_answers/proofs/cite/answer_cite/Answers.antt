@@ -1,4 +1,4 @@
-use Rattle.std.proofs.Common.{rules}
+use Rattle.bib_answers.proofs.Words.{rules}
 use Rattle.bib_answers.specs.Cite.{cite_answer}
 use Rattle.bib_answers.proofs.cite.answer_cite.Goals as goal
 

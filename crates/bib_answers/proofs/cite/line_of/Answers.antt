@@ -1,5 +1,5 @@
-use Rattle.std.proofs.Common.{◌∙◌, ◌++◌, ap₂, codes}
-use Rattle.bib_spec.specs.Text.{Text}
+use Rattle.bib_answers.proofs.Words.{◌∙◌, ◌++◌, ap₂, Text}
+use Rattle.std.proofs.Common.{codes}
 use Rattle.bib_answers.proofs.EntryNumbers.{entry_key}
 use Rattle.bib_answers.proofs.cite.line_of.Goals as goal
 

@@ -1,8 +1,4 @@
-use Rattle.std.proofs.Common.{◌∙◌, ◌++◌, ◌<◌, length, rules, ap₂, subst}
-use Rattle.bib_spec.specs.Text.{Text}
-use Rattle.bib_spec.specs.Records.{entries_of}
-use Rattle.bib_answers.specs.Cite.{listed_line}
-use Rattle.bib_answers.specs.Marks.{AreMarks}
+use Rattle.bib_answers.proofs.Words.{◌∙◌, ◌++◌, ◌<◌, length, rules, ap₂, subst, Text, entries_of, listed_line, AreMarks}
 use Rattle.bib_answers.proofs.LineLists.{lines_more}
 use Rattle.bib_answers.proofs.cite.listed_text.Goals as goal
 

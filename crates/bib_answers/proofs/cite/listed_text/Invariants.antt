@@ -1,9 +1,5 @@
-use Rattle.std.proofs.Common.{◌≡◌, take}
-use Rattle.std.specs.List.{flat_map}
-use Rattle.std.specs.Option.{IfSome}
-use Rattle.bib_spec.specs.Records.{entries_of}
-use Rattle.bib_store.specs.Meaning.{OfReading}
-use Rattle.bib_answers.specs.Cite.{listed_line, IsKeyed}
+use Rattle.bib_answers.proofs.Words.{◌≡◌, take, flat_map, IfSome, entries_of, OfReading, listed_line}
+use Rattle.bib_answers.specs.Cite.{IsKeyed}
 use Rattle.bib_answers.proofs.cite.listed_text.Given as goal
 
 abbrev pub invariant-list : goal.invariant-list

@@ -1,5 +1,4 @@
-use Rattle.std.proofs.Common.{take}
-use Rattle.bib_answers.specs.Marks.{AreMarks}
+use Rattle.bib_answers.proofs.Words.{take, AreMarks}
 use Rattle.bib_answers.proofs.cite.marks.Given as goal
 
 abbrev pub invariant-mark : goal.invariant-mark

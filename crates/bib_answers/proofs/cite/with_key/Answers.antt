@@ -1,4 +1,4 @@
-use Rattle.std.proofs.Common.{◌∙◌}
+use Rattle.bib_answers.proofs.Words.{◌∙◌}
 use Rattle.bib_answers.proofs.EntryNumbers.{entry_key}
 use Rattle.bib_answers.proofs.cite.with_key.Goals as goal
 

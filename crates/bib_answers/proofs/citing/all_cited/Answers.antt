@@ -1,5 +1,4 @@
-use Rattle.std.proofs.Common.{◌<◌, All, length, sym, subst}
-use Rattle.bib_spec.specs.Records.{entries_of}
+use Rattle.bib_answers.proofs.Words.{◌<◌, All, length, sym, subst, entries_of}
 use Rattle.bib_answers.specs.Cited.{default_min}
 use Rattle.bib_answers.proofs.CitedNumbers.{listed_within}
 use Rattle.bib_answers.proofs.citing.all_cited.Goals as goal

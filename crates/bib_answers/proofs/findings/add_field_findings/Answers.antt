@@ -1,13 +1,5 @@
-use Rattle.std.proofs.Common.{◌∙◌, [], ◌∷◌, List, Option, ap, subst, sym}
-use Rattle.std.specs.Option.{option_copied}
-use Rattle.bib_spec.specs.Text.{Text}
-use Rattle.bib_scan.specs.View.{Field, field_seen}
-use Rattle.bib_answers.specs.Check.{defined_in}
-use Rattle.bib_answers.specs.Lint.{crossref_findings, value_findings}
-use Rattle.bib_answers.specs.FindingLines.{with_findings}
-use Rattle.bib_answers.specs.declared.name_filter.NameFilter.{NameFilter}
-use Rattle.bib_answers.specs.Recurring.{AreTold, names_of}
-use Rattle.bib_answers.specs.Seen.{IsAt}
+use Rattle.bib_answers.proofs.Words.{◌∙◌, [], ◌∷◌, List, Option, ap, subst, sym, option_copied, Text, Field, field_seen, defined_in, crossref_findings, value_findings, with_findings, NameFilter, AreTold, IsAt}
+use Rattle.bib_answers.specs.Recurring.{names_of}
 use Rattle.bib_answers.proofs.FindingSteps.{IsFinding, finding_start, finding_more, finding_all}
 use Rattle.bib_answers.proofs.findings.add_field_findings.Goals as goal
 

@@ -1,9 +1,5 @@
-use Rattle.std.proofs.Common.{length}
-use Rattle.std.specs.Option.{option_copied}
-use Rattle.bib_answers.specs.Check.{defined_in}
-use Rattle.bib_answers.specs.Lint.{crossref_findings}
+use Rattle.bib_answers.proofs.Words.{length, option_copied, defined_in, crossref_findings, IsAt}
 use Rattle.bib_answers.specs.Recurring.{names_of}
-use Rattle.bib_answers.specs.Seen.{IsAt}
 use Rattle.bib_answers.proofs.FindingSteps.{IsFinding}
 use Rattle.bib_answers.proofs.findings.add_field_findings.Given as goal
 

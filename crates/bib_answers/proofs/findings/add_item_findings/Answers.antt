@@ -1,9 +1,4 @@
-use Rattle.std.proofs.Common.{◌≡◌, ◌∙◌, ℕ, true, false, rules, sym, ap}
-use Rattle.std.specs.Option.{option_copied}
-use Rattle.std.proofs.lemmas.Result.{on_ok_weaker}
-use Rattle.bib_spec.specs.Records.{entries_of, is_repeated}
-use Rattle.bib_answers.specs.Check.{assigned}
-use Rattle.bib_answers.specs.Lint.{crossref_findings, crossrefs_of}
+use Rattle.bib_answers.proofs.Words.{◌≡◌, ◌∙◌, ℕ, true, false, rules, sym, ap, option_copied, on_ok_weaker, entries_of, is_repeated, assigned, crossref_findings, crossrefs_of}
 use Rattle.bib_answers.proofs.ItemFields.{IsViewed, viewed, viewed_sound, told_entry, entry_within, entry_key}
 use Rattle.bib_answers.proofs.ItemFindings.{other_written, entry_written}
 use Rattle.bib_answers.proofs.findings.add_item_findings.Goals as goal

@@ -1,9 +1,5 @@
-use Rattle.std.proofs.Common.{◌≡◌, ◌∙◌, ◌+◌, ℕ, arith}
-use Rattle.std.specs.Option.{option_copied}
-use Rattle.bib_spec.specs.Tree.{Part}
-use Rattle.bib_scan.specs.PartView.{part_view}
-use Rattle.bib_value.proofs.RawLemmas.{parts_counted}
-use Rattle.bib_answers.specs.Lint.{use_findings}
+use Rattle.bib_answers.proofs.Words.{◌≡◌, ◌∙◌, ◌+◌, ℕ, option_copied, Part, part_view, parts_counted, use_findings}
+use Rattle.std.proofs.Common.{arith}
 use Rattle.bib_answers.proofs.FindingSteps.{uses_more, uses_all}
 use Rattle.bib_answers.proofs.findings.add_part_uses.Goals as goal
 

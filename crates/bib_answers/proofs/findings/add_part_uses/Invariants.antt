@@ -1,7 +1,4 @@
-use Rattle.std.proofs.Common.{◌+◌, ℕ}
-use Rattle.std.specs.Option.{option_copied}
-use Rattle.bib_spec.specs.Tree.{Part}
-use Rattle.bib_answers.specs.Lint.{use_findings}
+use Rattle.bib_answers.proofs.Words.{◌+◌, ℕ, option_copied, Part, use_findings}
 use Rattle.bib_answers.proofs.FindingSteps.{UsesTo}
 use Rattle.bib_answers.proofs.findings.add_part_uses.Given as goal
 

@@ -1,9 +1,4 @@
-use Rattle.std.proofs.Common.{◌∙◌, ◌+◌, ℕ}
-use Rattle.std.specs.Option.{option_copied}
-use Rattle.std.proofs.lemmas.Result.{on_ok_weaker}
-use Rattle.bib_spec.specs.Tree.{Part}
-use Rattle.bib_scan.specs.PartView.{part_view}
-use Rattle.bib_answers.specs.Lint.{use_findings}
+use Rattle.bib_answers.proofs.Words.{◌∙◌, ◌+◌, ℕ, option_copied, on_ok_weaker, Part, part_view, use_findings}
 use Rattle.bib_answers.proofs.FindingSteps.{uses_alone}
 use Rattle.bib_answers.proofs.findings.add_uses.Goals as goal
 

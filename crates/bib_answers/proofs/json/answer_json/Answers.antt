@@ -1,4 +1,4 @@
-use Rattle.std.proofs.Common.{rules}
+use Rattle.bib_answers.proofs.Words.{rules}
 use Rattle.bib_answers.specs.Json.{json_answer}
 use Rattle.bib_answers.proofs.json.answer_json.Goals as goal
 

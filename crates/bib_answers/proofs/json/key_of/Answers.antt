@@ -1,4 +1,4 @@
-use Rattle.std.proofs.Common.{◌∙◌, Some, ap}
+use Rattle.bib_answers.proofs.Words.{◌∙◌, Some, ap}
 use Rattle.bib_answers.proofs.EntryNumbers.{entry_key}
 use Rattle.bib_answers.proofs.Shown.{number_is}
 use Rattle.bib_answers.proofs.json.key_of.Goals as goal

@@ -1,12 +1,6 @@
-use Rattle.std.proofs.Common.{◌≡◌, ◌≢◌, ◌∙◌, ◌<◌, [], false, length, get_or, rules, sym, ap, subst}
-use Rattle.std.proofs.lemmas.Result.{IfOk-weaker}
-use Rattle.bib_spec.specs.Text.{Text}
-use Rattle.bib_spec.specs.Records.{entries_of}
-use Rattle.entry_json.specs.EntryJson.{is_told_utf8}
+use Rattle.bib_answers.proofs.Words.{◌≡◌, ◌≢◌, ◌∙◌, ◌<◌, [], false, length, get_or, rules, sym, ap, subst, IfOk-weaker, Text, entries_of, is_told_utf8, not_utf8_line, answer_of}
 use Rattle.entry_json.specs.declared.fault.JsonFault.{JsonFault}
 use Rattle.entry_json.specs.declared.fault.JsonFault.TheVariants.{NotUtf8, Memory}
-use Rattle.bib_answers.specs.Json.{not_utf8_line}
-use Rattle.bib_answers.specs.Outcome.{answer_of}
 use Rattle.bib_answers.proofs.EntryNumbers.{entry_key}
 use Rattle.bib_answers.proofs.JsonLines.{told_entry, told_more, told_stops}
 use Rattle.bib_answers.proofs.json.lines_of.Goals as goal

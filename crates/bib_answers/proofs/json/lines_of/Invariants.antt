@@ -1,5 +1,4 @@
-use Rattle.bib_spec.specs.Records.{entries_of}
-use Rattle.bib_store.specs.Meaning.{OfReading}
+use Rattle.bib_answers.proofs.Words.{entries_of, OfReading}
 use Rattle.bib_answers.proofs.JsonLines.{IsToldTo}
 use Rattle.bib_answers.proofs.json.lines_of.Given as goal
 

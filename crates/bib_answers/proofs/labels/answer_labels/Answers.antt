@@ -1,4 +1,4 @@
-use Rattle.std.proofs.Common.{rules}
+use Rattle.bib_answers.proofs.Words.{rules}
 use Rattle.bib_answers.specs.Labels.{labels_answer}
 use Rattle.bib_answers.proofs.labels.answer_labels.Goals as goal
 

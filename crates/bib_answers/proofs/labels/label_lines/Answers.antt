@@ -1,8 +1,5 @@
-use Rattle.std.proofs.Common.{rules, ◌≡◌, ◌∙◌, ◌++◌, List, zip, ap, arith}
-use Rattle.std.specs.List.{flat_map}
-use Rattle.bib_spec.specs.Text.{Text}
-use Rattle.bib_names.specs.Label.{labels_of}
-use Rattle.bib_answers.specs.Labels.{keyed_line}
+use Rattle.bib_answers.proofs.Words.{rules, ◌≡◌, ◌∙◌, ◌++◌, List, zip, ap, flat_map, Text, labels_of, keyed_line}
+use Rattle.std.proofs.Common.{arith}
 use Rattle.bib_answers.proofs.LabelLines.{label_more, labels_all}
 use Rattle.bib_answers.proofs.labels.label_lines.Goals as goal
 

@@ -1,6 +1,4 @@
-use Rattle.std.proofs.Common.{◌≡◌, take, zip}
-use Rattle.std.specs.List.{flat_map}
-use Rattle.bib_answers.specs.Labels.{keyed_line}
+use Rattle.bib_answers.proofs.Words.{◌≡◌, take, zip, flat_map, keyed_line}
 use Rattle.bib_answers.proofs.labels.label_lines.Given as goal
 
 abbrev pub invariant-line : goal.invariant-line

@@ -1,8 +1,4 @@
-use Rattle.std.proofs.Common.{◌≡◌, ◌∙◌, ℕ, ◌+◌, ◌<◌, ◌++◌, ◌∷◌, [], List, length, take, get_or, sym, subst}
-use Rattle.std.proofs.lemmas.List.{take_more}
-use Rattle.bib_spec.specs.Records.{entries_of}
-use Rattle.bib_keys.proofs.Walks.{next-of}
-use Rattle.bib_answers.specs.Labels.{records_at, AreLabelRows}
+use Rattle.bib_answers.proofs.Words.{◌≡◌, ◌∙◌, ℕ, ◌+◌, ◌<◌, ◌++◌, ◌∷◌, [], List, length, take, get_or, sym, subst, take_more, entries_of, next-of, records_at, AreLabelRows}
 use Rattle.bib_answers.proofs.EntryNumbers.{entry_key}
 use Rattle.bib_answers.proofs.LabelLines.{rows_with_one}
 use Rattle.bib_answers.proofs.labels.label_rows.Goals as goal

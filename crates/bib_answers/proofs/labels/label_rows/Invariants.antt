@@ -1,8 +1,5 @@
-use Rattle.std.proofs.Common.{take}
-use Rattle.bib_spec.specs.Records.{entries_of}
-use Rattle.bib_store.specs.Meaning.{OfReading}
+use Rattle.bib_answers.proofs.Words.{take, entries_of, OfReading, records_at, AreLabelRows}
 use Rattle.bib_keys.specs.Parents.{AreParents}
-use Rattle.bib_answers.specs.Labels.{records_at, AreLabelRows}
 use Rattle.bib_answers.proofs.labels.label_rows.Given as goal
 
 abbrev pub invariant-rows : goal.invariant-rows

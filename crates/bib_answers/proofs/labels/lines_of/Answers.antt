@@ -1,9 +1,4 @@
-use Rattle.std.proofs.Common.{◌∙◌, ap₂, zip}
-use Rattle.std.specs.List.{flat_map}
-use Rattle.std.proofs.lemmas.Result.{IfOk-weaker}
-use Rattle.bib_spec.specs.Records.{entries_of}
-use Rattle.bib_names.specs.Label.{labels_of}
-use Rattle.bib_answers.specs.Labels.{keyed_line, records_at}
+use Rattle.bib_answers.proofs.Words.{◌∙◌, ap₂, zip, flat_map, IfOk-weaker, entries_of, labels_of, keyed_line, records_at}
 use Rattle.bib_answers.proofs.LabelLines.{lines_of_rows}
 use Rattle.bib_answers.proofs.labels.lines_of.Goals as goal
 

@@ -1,5 +1,4 @@
-use Rattle.std.proofs.Common.{◌≡◌, ◌++◌, take}
-use Rattle.std.specs.List.{flat_map}
+use Rattle.bib_answers.proofs.Words.{◌≡◌, ◌++◌, take, flat_map}
 use Rattle.bib_answers.proofs.lines.add_all.Given as goal
 
 abbrev pub invariant-texts : goal.invariant-texts

@@ -1,7 +1,4 @@
-use Rattle.std.proofs.Common.{◌≡◌, subst}
-use Rattle.std.proofs.lemmas.Result.{IfOk-weaker}
-use Rattle.bib_spec.specs.Text.{Text}
-use Rattle.bib_store.specs.Meaning.{OfReading}
+use Rattle.bib_answers.proofs.Words.{◌≡◌, subst, IfOk-weaker, Text, OfReading}
 use Rattle.bib_answers.specs.Lint.{opened, refused, lint_answer}
 use Rattle.bib_answers.proofs.lint.answer_lint.Goals as goal
 

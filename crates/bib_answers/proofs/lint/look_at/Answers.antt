@@ -1,6 +1,5 @@
-use Rattle.std.proofs.Common.{[], ◌∙◌, sym, ap, arith}
-use Rattle.bib_scan.specs.View.{View}
-use Rattle.bib_answers.specs.FindingLines.{Written}
+use Rattle.bib_answers.proofs.Words.{[], ◌∙◌, sym, ap, View, Written}
+use Rattle.std.proofs.Common.{arith}
 use Rattle.bib_answers.specs.Lint.{item_lines}
 use Rattle.bib_answers.proofs.ReportSteps.{items_more}
 use Rattle.bib_answers.proofs.ItemCounts.{entries_counted, counted_small}

@@ -1,5 +1,4 @@
-use Rattle.std.proofs.Common.{◌≡◌, ◌++◌, take}
-use Rattle.std.specs.List.{flat_map}
+use Rattle.bib_answers.proofs.Words.{◌≡◌, ◌++◌, take, flat_map}
 use Rattle.bib_answers.specs.Cite.{line_bytes}
 use Rattle.bib_answers.proofs.listing.write_lines.Given as goal
 

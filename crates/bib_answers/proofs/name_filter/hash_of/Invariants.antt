@@ -1,6 +1,5 @@
-use Rattle.std.proofs.Common.{◌≡◌, drop}
-use Rattle.bib_spec.specs.Text.{folded}
-use Rattle.bib_answers.specs.Recurring.{hash_of, hash_from}
+use Rattle.bib_answers.proofs.Words.{◌≡◌, drop, folded, hash_from}
+use Rattle.bib_answers.specs.Recurring.{hash_of}
 use Rattle.bib_answers.proofs.name_filter.hash_of.Given as goal
 
 abbrev pub invariant-bytes : goal.invariant-bytes

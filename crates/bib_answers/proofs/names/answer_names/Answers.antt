@@ -1,5 +1,4 @@
-use Rattle.std.proofs.Common.{rules}
-use Rattle.std.proofs.lemmas.Result.{IfOk-weaker}
+use Rattle.bib_answers.proofs.Words.{rules, IfOk-weaker}
 use Rattle.bib_answers.specs.Names.{names_answer}
 use Rattle.bib_answers.proofs.names.answer_names.Goals as goal
 

@@ -1,4 +1,4 @@
-use Rattle.std.proofs.Common.{ℕ, List, map, Bor}
+use Rattle.bib_answers.proofs.Words.{ℕ, List, map, Bor}
 use Rattle.bib_answers.proofs.NameLines.{listed_names, listed_fault}
 use Rattle.bib_answers.proofs.names.listed_in.Goals as goal
 

@@ -1,7 +1,7 @@
-use Rattle.std.proofs.Common.{◌≡◌, ◌∙◌, ℕ, List, Ok, map, Bor, rules, sym, ap, arith}
-use Rattle.std.proofs.lemmas.List.{length-map, get_or-map}
+use Rattle.bib_answers.proofs.Words.{◌≡◌, ◌∙◌, ℕ, List, Ok, map, Bor, rules, sym, ap, length-map, Text}
+use Rattle.std.proofs.Common.{arith}
+use Rattle.std.proofs.lemmas.List.{get_or-map}
 use Rattle.std.proofs.lemmas.Result.{err_from_is_err_and}
-use Rattle.bib_spec.specs.Text.{Text}
 use Rattle.bib_answers.proofs.NameLines.{name_more, name_stops}
 use Rattle.bib_answers.proofs.names.name_lines.Goals as goal
 

@@ -1,5 +1,4 @@
-use Rattle.std.proofs.Common.{◌≡◌, drop, map}
-use Rattle.bib_answers.specs.Names.{name_lines, before_lines}
+use Rattle.bib_answers.proofs.Words.{◌≡◌, drop, map, name_lines, before_lines}
 use Rattle.bib_answers.proofs.names.name_lines.Given as goal
 
 -- the lines so far with those of the names that are left

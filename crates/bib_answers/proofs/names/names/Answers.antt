@@ -1,5 +1,4 @@
-use Rattle.bib_spec.specs.Records.{entries_of}
-use Rattle.bib_spec.proofs.Parents.{named_within}
+use Rattle.bib_answers.proofs.Words.{entries_of, named_within}
 use Rattle.bib_answers.proofs.names.names.Goals as goal
 
 pub entry_answer-requires-clause-number : goal.entry_answer-requires-clause-number

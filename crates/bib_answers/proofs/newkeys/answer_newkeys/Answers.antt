@@ -1,4 +1,4 @@
-use Rattle.std.proofs.Common.{rules}
+use Rattle.bib_answers.proofs.Words.{rules}
 use Rattle.bib_answers.specs.NewKeys.{newkeys_answer}
 use Rattle.bib_answers.proofs.newkeys.answer_newkeys.Goals as goal
 

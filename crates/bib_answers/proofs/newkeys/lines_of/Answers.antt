@@ -1,7 +1,5 @@
-use Rattle.std.proofs.Common.{rules, ◌≡◌, ◌∙◌, ◌++◌, ◌<◌, length, ap, arith}
-use Rattle.bib_spec.specs.Text.{Text}
-use Rattle.bib_spec.specs.Records.{entries_of}
-use Rattle.bib_answers.specs.NewKeys.{new_key_line}
+use Rattle.bib_answers.proofs.Words.{rules, ◌≡◌, ◌∙◌, ◌++◌, ◌<◌, length, ap, Text, entries_of, new_key_line}
+use Rattle.std.proofs.Common.{arith}
 use Rattle.bib_answers.proofs.EntryNumbers.{entry_key}
 use Rattle.bib_answers.proofs.NewKeyLines.{new_keys_more, new_keys_all}
 use Rattle.bib_answers.proofs.newkeys.lines_of.Goals as goal

@@ -1,8 +1,4 @@
-use Rattle.std.proofs.Common.{◌≡◌, take, zip}
-use Rattle.std.specs.List.{flat_map}
-use Rattle.bib_spec.specs.Records.{entries_of, keys_of}
-use Rattle.bib_store.specs.Meaning.{OfReading}
-use Rattle.bib_answers.specs.NewKeys.{new_key_line}
+use Rattle.bib_answers.proofs.Words.{◌≡◌, take, zip, flat_map, entries_of, keys_of, OfReading, new_key_line}
 use Rattle.bib_answers.proofs.newkeys.lines_of.Given as goal
 
 abbrev pub invariant-line : goal.invariant-line

@@ -1,4 +1,4 @@
-use Rattle.std.proofs.lemmas.Result.{IfOk-weaker}
+use Rattle.bib_answers.proofs.Words.{IfOk-weaker}
 use Rattle.bib_answers.proofs.Refusals.{file_refused, file_answered}
 use Rattle.bib_answers.proofs.opening.answer_file.Goals as goal
 

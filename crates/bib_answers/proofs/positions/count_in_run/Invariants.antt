@@ -1,6 +1,5 @@
-use Rattle.std.proofs.Common.{◌≡◌, ◌≤◌, take}
+use Rattle.bib_answers.proofs.Words.{◌≡◌, ◌≤◌, take, is_line_feed}
 use Rattle.std.specs.List.{count_by}
-use Rattle.bib_answers.specs.Positions.{is_line_feed}
 use Rattle.bib_answers.proofs.positions.count_in_run.Given as goal
 
 abbrev pub invariant-bytes : goal.invariant-bytes

@@ -1,6 +1,5 @@
-use Rattle.std.proofs.Common.{◌≡◌, ◌+◌, length}
+use Rattle.bib_answers.proofs.Words.{◌≡◌, ◌+◌, length, is_line_feed}
 use Rattle.std.specs.List.{count_by}
-use Rattle.bib_answers.specs.Positions.{is_line_feed}
 use Rattle.bib_answers.proofs.positions.feed_count.Given as goal
 
 abbrev pub invariant-runs : goal.invariant-runs

@@ -1,6 +1,5 @@
-use Rattle.std.proofs.Common.{◌∙◌, ◌<◌, ◌^◌, ◌-◌, length, take, drop, fold, rules, ap, arith}
-use Rattle.bib_answers.specs.declared.positions.Position.{Position}
-use Rattle.bib_answers.specs.Positions.{position_after, IsKnown}
+use Rattle.bib_answers.proofs.Words.{◌∙◌, ◌<◌, ◌^◌, ◌-◌, length, take, drop, fold, rules, ap, Position, position_after, IsKnown}
+use Rattle.std.proofs.Common.{arith}
 use Rattle.bib_answers.proofs.PositionSteps.{position_later, position_end, numbers_fit}
 use Rattle.bib_answers.proofs.positions.known_at.Goals as goal
 

@@ -1,5 +1,4 @@
-use Rattle.std.proofs.Common.{◌∙◌, ◌+◌, ◌-◌, length, ap}
-use Rattle.bib_answers.specs.Positions.{position}
+use Rattle.bib_answers.proofs.Words.{◌∙◌, ◌+◌, ◌-◌, length, ap, position}
 use Rattle.bib_answers.proofs.PositionSteps.{after_feed, after_none}
 use Rattle.bib_answers.proofs.positions.moved.Goals as goal
 

@@ -1,10 +1,5 @@
-use Rattle.std.proofs.Common.{◌∙◌, [], ◌∷◌, ◌++◌, List, Option, ap, subst, sym}
-use Rattle.bib_spec.specs.Text.{Text}
-use Rattle.bib_scan.specs.View.{Field, field_seen}
-use Rattle.bib_answers.specs.Check.{defined_in, extra_report, use_reports}
-use Rattle.bib_answers.specs.declared.name_filter.NameFilter.{NameFilter}
-use Rattle.bib_answers.specs.Recurring.{AreTold, names_of}
-use Rattle.bib_answers.specs.Seen.{IsAt}
+use Rattle.bib_answers.proofs.Words.{◌∙◌, [], ◌∷◌, ◌++◌, List, Option, ap, subst, sym, Text, Field, field_seen, defined_in, extra_report, use_reports, NameFilter, AreTold, IsAt}
+use Rattle.bib_answers.specs.Recurring.{names_of}
 use Rattle.bib_answers.proofs.ReportSteps.{IsReporting, reporting_start, reporting_more, reporting_all}
 use Rattle.bib_answers.proofs.reporting.add_field_reports.Goals as goal
 

@@ -1,7 +1,5 @@
-use Rattle.std.proofs.Common.{length}
-use Rattle.bib_answers.specs.Check.{defined_in}
+use Rattle.bib_answers.proofs.Words.{length, defined_in, IsAt}
 use Rattle.bib_answers.specs.Recurring.{names_of}
-use Rattle.bib_answers.specs.Seen.{IsAt}
 use Rattle.bib_answers.proofs.ReportSteps.{IsReporting}
 use Rattle.bib_answers.proofs.reporting.add_field_reports.Given as goal
 

@@ -1,6 +1,4 @@
-use Rattle.std.proofs.Common.{◌≡◌, ◌∙◌, ◌++◌, [], true, false, rules, sym, ap}
-use Rattle.bib_spec.specs.Texts.{Macros}
-use Rattle.bib_answers.specs.Check.{assigned, defined_in, field_reports}
+use Rattle.bib_answers.proofs.Words.{◌≡◌, ◌∙◌, ◌++◌, [], true, false, rules, sym, ap, Macros, assigned, defined_in, field_reports}
 use Rattle.bib_answers.proofs.ItemFields.{IsViewed, viewed, viewed_sound, told_entry, entry_within, entry_key, other_reported, entry_reported}
 use Rattle.bib_answers.proofs.reporting.add_item_reports.Goals as goal
 

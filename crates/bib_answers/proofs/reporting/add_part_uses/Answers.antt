@@ -1,8 +1,5 @@
-use Rattle.std.proofs.Common.{◌≡◌, ◌∙◌, refl, arith}
-use Rattle.std.specs.Option.{option_copied}
-use Rattle.bib_scan.specs.PartView.{part_view}
-use Rattle.bib_value.proofs.RawLemmas.{parts_counted}
-use Rattle.bib_answers.specs.Check.{use_report}
+use Rattle.bib_answers.proofs.Words.{◌≡◌, ◌∙◌, refl, option_copied, part_view, parts_counted, use_report}
+use Rattle.std.proofs.Common.{arith}
 use Rattle.bib_answers.proofs.ReportSteps.{uses_more, uses_all}
 use Rattle.bib_answers.proofs.reporting.add_part_uses.Goals as goal
 

@@ -1,5 +1,4 @@
-use Rattle.std.specs.Option.{option_copied}
-use Rattle.bib_answers.specs.Check.{use_report}
+use Rattle.bib_answers.proofs.Words.{option_copied, use_report}
 use Rattle.bib_answers.proofs.ReportSteps.{UsesTo}
 use Rattle.bib_answers.proofs.reporting.add_part_uses.Given as goal
 

@@ -1,7 +1,4 @@
-use Rattle.std.proofs.Common.{◌∙◌}
-use Rattle.std.specs.Option.{option_copied}
-use Rattle.bib_scan.specs.PartView.{part_view}
-use Rattle.bib_answers.specs.Check.{use_report}
+use Rattle.bib_answers.proofs.Words.{◌∙◌, option_copied, part_view, use_report}
 use Rattle.bib_answers.proofs.ReportSteps.{uses_alone}
 use Rattle.bib_answers.proofs.reporting.add_uses.Goals as goal
 

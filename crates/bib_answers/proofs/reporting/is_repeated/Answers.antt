@@ -1,6 +1,5 @@
-use Rattle.std.proofs.Common.{ℕ, false, nat_lt, Option, sym, ap, ◌∙◌}
-use Rattle.std.specs.Option.{option_map_or}
-use Rattle.bib_spec.specs.Records.{entries_of, entry_named}
+use Rattle.bib_answers.proofs.Words.{ℕ, false, Option, sym, ap, ◌∙◌, option_map_or, entries_of, entry_named}
+use Rattle.std.proofs.Common.{nat_lt}
 use Rattle.bib_store.proofs.RepeatedKeys.{repeated-first, apart-unrepeated}
 use Rattle.bib_answers.proofs.reporting.is_repeated.Goals as goal
 

@@ -1,6 +1,4 @@
-use Rattle.std.proofs.Common.{◌≡◌, ◌++◌, take}
-use Rattle.std.specs.List.{flat_map}
-use Rattle.bib_answers.specs.Show.{shown_field}
+use Rattle.bib_answers.proofs.Words.{◌≡◌, ◌++◌, take, flat_map, shown_field}
 use Rattle.bib_answers.proofs.show.add_fields.Given as goal
 
 abbrev pub invariant-loop-field : goal.invariant-loop-field

@@ -1,6 +1,4 @@
-use Rattle.std.proofs.Common.{◌∙◌, ◌++◌, ap}
-use Rattle.bib_spec.specs.Text.{Text}
-use Rattle.bib_spec.specs.Records.{entries_of}
+use Rattle.bib_answers.proofs.Words.{◌∙◌, ◌++◌, ap, Text, entries_of}
 use Rattle.bib_answers.proofs.EntryNumbers.{entry_key}
 use Rattle.bib_answers.proofs.Shown.{number_is, parent_line_with}
 use Rattle.bib_answers.proofs.show.add_parent.Goals as goal

@@ -1,4 +1,4 @@
-use Rattle.std.proofs.Common.{rules}
+use Rattle.bib_answers.proofs.Words.{rules}
 use Rattle.bib_answers.specs.Show.{show_answer}
 use Rattle.bib_answers.proofs.show.answer_show.Goals as goal
 

@@ -1,6 +1,4 @@
-use Rattle.std.proofs.Common.{◌∙◌}
-use Rattle.std.proofs.lemmas.Result.{IfOk-weaker}
-use Rattle.bib_spec.specs.Records.{entries_of}
+use Rattle.bib_answers.proofs.Words.{◌∙◌, IfOk-weaker, entries_of}
 use Rattle.bib_answers.proofs.Shown.{parent_number, shown_with}
 use Rattle.bib_answers.proofs.show.entry_text.Goals as goal
 

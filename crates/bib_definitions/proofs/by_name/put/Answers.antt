@@ -1,9 +1,5 @@
-use Rattle.std.proofs.Common.{List, sym, ap, ◌∙◌, subst}
-use Rattle.std.specs.Option.{option_copied}
-use Rattle.bib_spec.specs.Text.{folded}
-use Rattle.bib_definitions.specs.declared.held.Definition.{Definition}
+use Rattle.bib_definitions.proofs.Words.{List, sym, ap, ◌∙◌, subst, option_copied, folded, Definition, each_held, with_definition, Gives}
 use Rattle.bib_definitions.specs.declared.held.Held.TheVariants.{One}
-use Rattle.bib_definitions.specs.ByName.{each_held, with_definition, Gives}
 use Rattle.bib_definitions.proofs.DefinedNames.{none_of}
 use Rattle.bib_definitions.proofs.HeldLists.{none-each, gives-each}
 use Rattle.bib_definitions.proofs.by_name.put.Goals as goal

@@ -1,6 +1,4 @@
-use Rattle.std.proofs.Common.{sym, ◌∙◌, subst}
-use Rattle.bib_spec.specs.Text.{folded}
-use Rattle.bib_definitions.specs.ByName.{with_definition, Ascends}
+use Rattle.bib_definitions.proofs.Words.{sym, ◌∙◌, subst, folded, with_definition, Ascends}
 use Rattle.bib_definitions.proofs.HeldLists.{of-each, gives-changed}
 use Rattle.bib_definitions.proofs.by_name.put_among.Goals as goal
 

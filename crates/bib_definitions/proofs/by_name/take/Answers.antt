@@ -1,7 +1,4 @@
-use Rattle.std.proofs.Common.{List, sym, ◌∙◌, ap, subst}
-use Rattle.bib_spec.specs.Text.{Text, folded}
-use Rattle.bib_definitions.specs.declared.held.Held.{Held}
-use Rattle.bib_definitions.specs.ByName.{definitions_of, each_held, without_label, Gives, Ascends}
+use Rattle.bib_definitions.proofs.Words.{List, sym, ◌∙◌, ap, subst, Text, folded, Held, definitions_of, each_held, without_label, Gives, Ascends}
 use Rattle.bib_definitions.proofs.DefinedNames.{none_of, gives_same}
 use Rattle.bib_definitions.proofs.HeldLists.{of-each, none-each, gives-changed}
 use Rattle.bib_definitions.proofs.by_name.take.Goals as goal

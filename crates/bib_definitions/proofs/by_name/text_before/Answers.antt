@@ -1,4 +1,5 @@
-use Rattle.std.proofs.Common.{◌-◌, Some, sym, ◌∙◌, ap, arith}
+use Rattle.bib_definitions.proofs.Words.{Some, sym, ◌∙◌, ap, arith}
+use Rattle.std.proofs.Common.{◌-◌}
 use Rattle.bib_definitions.proofs.DefinedNames.{before_none, before_some}
 use Rattle.bib_definitions.proofs.by_name.text_before.Goals as goal
 

@@ -1,4 +1,5 @@
-use Rattle.std.proofs.Common.{nat_lt, rules}
+use Rattle.bib_definitions.proofs.Words.{nat_lt}
+use Rattle.std.proofs.Common.{rules}
 use Rattle.std.proofs.lemmas.List.Sorted.{IsPartitionedBy-ltb, IsPartitionPoint-from_clause}
 use Rattle.bib_definitions.proofs.held.count_below.Goals as goal
 

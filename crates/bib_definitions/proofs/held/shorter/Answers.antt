@@ -1,7 +1,5 @@
-use Rattle.std.proofs.Common.{◌≡◌, ◌<◌, nat_lt, true, false, List, length, get_or, sym, ◌∙◌, ap, subst, arith}
-use Rattle.std.specs.List.Sorted.{IsPartitionPoint}
+use Rattle.bib_definitions.proofs.Words.{◌≡◌, ◌<◌, nat_lt, true, false, List, length, get_or, sym, ◌∙◌, ap, subst, arith, IsPartitionPoint, Definition}
 use Rattle.std.proofs.lemmas.List.{get_or_read}
-use Rattle.bib_definitions.specs.declared.held.Definition.{Definition}
 use Rattle.bib_definitions.proofs.PlacedDefinitions.{without_at, without_none}
 use Rattle.bib_definitions.proofs.held.shorter.Goals.{else-place-len-via-then-place-len+else-index-label, else-place-len-via-else-place-len}
 use Rattle.bib_definitions.proofs.held.shorter.Goals as goal

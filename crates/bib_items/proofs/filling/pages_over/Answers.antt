@@ -1,5 +1,4 @@
-use Rattle.std.proofs.Common.{◌+◌, ◌<◌, ◌≤◌, List, length, subst, sym, arith}
-use Rattle.bib_items.specs.declared.list.Item.{Item}
+use Rattle.bib_items.proofs.Words.{◌+◌, ◌<◌, ◌≤◌, List, length, subst, sym, arith, Item}
 use Rattle.bib_items.proofs.Gathered.{IsFilledTo, filled_page, filled_whole, page_ends}
 use Rattle.bib_items.proofs.filling.pages_over.Goals as goal
 

@@ -1,6 +1,4 @@
-use Rattle.std.proofs.Common.{◌≡◌, ◌-◌}
-use Rattle.bib_spec.specs.Reading.{Reading, Reads}
-use Rattle.bib_scan.specs.Layout.{start_of}
+use Rattle.bib_items.proofs.Words.{◌≡◌, ◌-◌, Reading, Reads, start_of}
 use Rattle.bib_items.proofs.Gathered.{IsFilledTo}
 use Rattle.bib_items.proofs.filling.pages_over.Given as goal
 

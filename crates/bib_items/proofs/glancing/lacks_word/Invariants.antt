@@ -1,4 +1,4 @@
-use Rattle.std.proofs.Common.{◌-◌, length}
+use Rattle.bib_items.proofs.Words.{◌-◌, length}
 use Rattle.bib_items.proofs.Glances.{LacksBefore}
 use Rattle.bib_items.proofs.glancing.lacks_word.Given as goal
 

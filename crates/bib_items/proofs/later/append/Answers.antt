@@ -1,6 +1,4 @@
-use Rattle.std.proofs.Common.{◌≡◌, ◌++◌, ◌+◌, ◌∙◌, length, ap, arith}
-use Rattle.bib_spec.specs.Text.{Text}
-use Rattle.bib_items.specs.Spans.{item_in}
+use Rattle.bib_items.proofs.Words.{◌≡◌, ◌++◌, ◌+◌, ◌∙◌, length, ap, arith, Text, item_in}
 use Rattle.bib_items.proofs.ItemsIn.{appended_is}
 use Rattle.bib_items.proofs.later.append.Goals as goal
 

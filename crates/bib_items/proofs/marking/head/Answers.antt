@@ -1,6 +1,4 @@
-use Rattle.std.proofs.Common.{sym}
-use Rattle.std.proofs.lemmas.List.{take_all}
-use Rattle.bib_items.specs.PartMarks.{mark_len}
+use Rattle.bib_items.proofs.Words.{sym, take_all, mark_len}
 use Rattle.bib_items.proofs.marking.head.Goals as goal
 
 pub returns-then-text-le-MARK_LEN : goal.returns-then-text-le-MARK_LEN

@@ -1,5 +1,4 @@
-use Rattle.std.proofs.Common.{◌≡◌, drop}
-use Rattle.bib_items.specs.PartMarks.{mixed_all}
+use Rattle.bib_items.proofs.Words.{◌≡◌, drop, mixed_all}
 use Rattle.bib_items.proofs.marking.mixed_all.Given as goal
 
 abbrev pub invariant-bytes : goal.invariant-bytes

@@ -1,6 +1,4 @@
-use Rattle.std.proofs.Common.{List, ◌+◌, subst, subst₂, sym, arith}
-use Rattle.bib_spec.specs.Text.{Text}
-use Rattle.bib_items.specs.declared.span.Span.{Span}
+use Rattle.bib_items.proofs.Words.{List, ◌+◌, subst, subst₂, sym, arith, Text, Span}
 use Rattle.bib_items.proofs.ItemsIn.{AreKept, kept_none, kept_more, kept_all}
 use Rattle.bib_items.proofs.page.compacted.Goals as goal
 

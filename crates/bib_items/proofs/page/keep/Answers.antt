@@ -1,7 +1,5 @@
-use Rattle.std.proofs.Common.{◌<◌, ◌∙◌, length, sym, ap₂, refl, arith}
+use Rattle.bib_items.proofs.Words.{◌<◌, ◌∙◌, length, sym, ap₂, refl, arith, item, span_end}
 use Rattle.std.proofs.lemmas.Result.{IfOk-weaker}
-use Rattle.bib_items.specs.Items.{item}
-use Rattle.bib_items.specs.Spans.{span_end}
 use Rattle.bib_items.proofs.ItemsIn.{in_second, lies_in_second}
 use Rattle.bib_items.proofs.page.keep.Goals as goal
 

@@ -1,10 +1,4 @@
-use Rattle.std.proofs.Common.{◌≡◌, ◌<◌, ◌+◌, ◌∙◌, List, [], length, ap, arith, ◌++◌}
-use Rattle.std.proofs.lemmas.List.{get_or_read}
-use Rattle.std.proofs.lemmas.Result.{on_ok_weaker}
-use Rattle.std.specs.List.{flat_map, between}
-use Rattle.bib_items.specs.declared.list.Item.{Item}
-use Rattle.bib_items.specs.Items.{kept_bytes}
-use Rattle.bib_pages.specs.Pages.{page_at}
+use Rattle.bib_items.proofs.Words.{◌≡◌, ◌<◌, ◌+◌, ◌∙◌, List, [], length, ap, arith, ◌++◌, get_or_read, on_ok_weaker, flat_map, between, Item, kept_bytes, page_at}
 use Rattle.bib_items.proofs.Appended.{front_stands, appended_begins, page_skipped, page_appended, all_appended, none_left}
 use Rattle.bib_items.proofs.places.append_bytes.Goals as goal
 use Rattle.bib_items.proofs.places.append_bytes.Goals.{then-len-skip, else-len-skip+else-left-len+in_ok-append_bytes}

@@ -1,4 +1,4 @@
-use Rattle.bib_pages.specs.Pages.{IsOnWay}
+use Rattle.bib_items.proofs.Words.{IsOnWay}
 use Rattle.bib_items.proofs.places.locate_from.Given as goal
 
 abbrev pub invariant-pass : goal.invariant-pass

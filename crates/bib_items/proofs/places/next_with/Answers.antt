@@ -1,10 +1,4 @@
-use Rattle.std.proofs.Common.{◌≡◌, ℕ, get_or, ◌+◌, ◌-◌, ◌≤◌, ◌<◌, ◌∙◌, List, [], length, ap, subst₂, arith}
-use Rattle.std.specs.List.{between}
-use Rattle.std.proofs.lemmas.List.{get_or_read}
-use Rattle.bib_items.specs.declared.list.Item.{Item}
-use Rattle.bib_items.specs.declared.seeking.Sought.{Sought}
-use Rattle.bib_items.specs.Seeking.{LacksPart, LackPart}
-use Rattle.bib_pages.specs.Pages.{page_at}
+use Rattle.bib_items.proofs.Words.{◌≡◌, ℕ, get_or, ◌+◌, ◌-◌, ◌≤◌, ◌<◌, ◌∙◌, List, [], length, ap, subst₂, arith, between, get_or_read, Item, Sought, LacksPart, LackPart, page_at}
 use Rattle.bib_items.proofs.Passed.{ArePassedOver, passed-before, passed-some, passed-page}
 use Rattle.bib_items.proofs.places.next_with.Goals as goal
 use Rattle.bib_items.proofs.places.next_with.Goals.{then-len-before, else-len-before+else-k-len}

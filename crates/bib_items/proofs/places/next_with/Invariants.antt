@@ -1,5 +1,4 @@
-use Rattle.bib_items.specs.declared.list.Item.{Item}
-use Rattle.bib_items.specs.Seeking.{LacksPart}
+use Rattle.bib_items.proofs.Words.{Item, LacksPart}
 use Rattle.bib_items.proofs.Passed.{ArePassedOver}
 use Rattle.bib_items.proofs.places.next_with.Given as goal
 

@@ -1,4 +1,4 @@
-use Rattle.std.proofs.Common.{◌≡◌}
+use Rattle.bib_items.proofs.Words.{◌≡◌}
 use Rattle.bib_items.proofs.places.note_all.Given as goal
 
 abbrev pub invariant-pass : goal.invariant-pass

@@ -1,7 +1,4 @@
-use Rattle.std.proofs.Common.{◌++◌, ◌∙◌, List, take, drop, ap}
-use Rattle.std.proofs.lemmas.Result.{on_ok_weaker}
-use Rattle.bib_items.specs.declared.list.Item.{Item}
-use Rattle.bib_pages.specs.Pages.{joined}
+use Rattle.bib_items.proofs.Words.{◌++◌, ◌∙◌, List, take, drop, ap, on_ok_weaker, Item, joined}
 use Rattle.bib_items.proofs.WholePages.{joined-put}
 use Rattle.bib_items.proofs.seams.put_all.Goals as goal
 

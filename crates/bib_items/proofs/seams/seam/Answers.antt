@@ -1,8 +1,4 @@
-use Rattle.std.proofs.Common.{◌+◌, ◌∙◌, List, ap, subst, sym}
-use Rattle.bib_items.specs.declared.list.Item.{Item}
-use Rattle.bib_pages.specs.Pages.{joined, IsPlace}
-use Rattle.bib_pages.proofs.Paging.{joined-parted}
-use Rattle.bib_items.specs.Pages.{IsSeam}
+use Rattle.bib_items.proofs.Words.{◌+◌, ◌∙◌, List, ap, subst, sym, Item, joined, IsPlace, joined-parted, IsSeam}
 use Rattle.bib_items.proofs.WholePages.{seam_in_page}
 use Rattle.bib_items.proofs.seams.seam.Goals as goal
 

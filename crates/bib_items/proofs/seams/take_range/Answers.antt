@@ -1,4 +1,4 @@
-use Rattle.bib_pages.specs.Pages.{joined}
+use Rattle.bib_items.proofs.Words.{joined}
 use Rattle.bib_items.proofs.WholePages.{cut_more}
 use Rattle.bib_items.proofs.seams.take_range.Goals as goal
 

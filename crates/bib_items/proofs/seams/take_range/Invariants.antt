@@ -1,6 +1,4 @@
-use Rattle.bib_pages.specs.Pages.{joined}
-use Rattle.bib_items.specs.Pages.{ArePages}
-use Rattle.bib_items.specs.Starts.{AreStarts}
+use Rattle.bib_items.proofs.Words.{joined, ArePages, AreStarts}
 use Rattle.bib_items.proofs.WholePages.{IsCutTo}
 use Rattle.bib_items.proofs.seams.take_range.Given as goal
 

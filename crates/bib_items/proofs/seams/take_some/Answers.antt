@@ -1,6 +1,4 @@
-use Rattle.std.proofs.Common.{◌≡◌, ◌+◌, ◌∙◌, List, length, take, ap, subst, arith}
-use Rattle.bib_items.specs.declared.list.Item.{Item}
-use Rattle.bib_pages.specs.Pages.{joined, IsPlace}
+use Rattle.bib_items.proofs.Words.{◌≡◌, ◌+◌, ◌∙◌, List, length, take, ap, subst, arith, Item, joined, IsPlace}
 use Rattle.bib_items.proofs.WholePages.{joined-taken}
 use Rattle.bib_items.proofs.seams.take_some.Goals as goal
 

@@ -1,11 +1,8 @@
-use Rattle.std.proofs.Common.{◌≡◌, ◌<◌, ◌+◌, ◌∙◌, ◌++◌, ◌∷◌, [], refl, length, sym, ap, arith, true≢false}
+use Rattle.bib_items.proofs.Words.{◌≡◌, ◌<◌, ◌+◌, ◌∙◌, ◌++◌, ◌∷◌, [], refl, length, sym, ap, arith, Err, get_or_read, Item, page_at, weight}
+use Rattle.std.proofs.Common.{true≢false}
 use Rattle.std.specs.Bool.{if◌then◌else◌}
-use Rattle.std.specs.Prelude.{Result, Ok, Err, false}
+use Rattle.std.specs.Prelude.{Result, Ok, false}
 use Rattle.std.specs.Result.{is_ok, is_err}
-use Rattle.std.proofs.lemmas.List.{get_or_read}
-use Rattle.bib_items.specs.declared.list.Item.{Item}
-use Rattle.bib_pages.specs.Pages.{page_at}
-use Rattle.bib_items.specs.Starts.{weight}
 use Rattle.bib_items.proofs.PageStarts.{taken_next}
 use Rattle.bib_items.proofs.starts.take_down.Goals as goal
 

@@ -1,9 +1,6 @@
-use Rattle.std.proofs.Common.{◌≡◌, ap, subst}
-use Rattle.std.proofs.lemmas.Result.{IfOk-weaker, IfErr-weaker}
-use Rattle.bib_journal.specs.OpenSteps.{SessionState, idle}
+use Rattle.bib_journal.proofs.Words.{◌≡◌, ap, subst, IfOk-weaker, SessionState, idle, OpenStep, NoStep}
+use Rattle.std.proofs.lemmas.Result.{IfErr-weaker}
 use Rattle.bib_journal.specs.Turns.{HasTurned}
-use Rattle.bib_journal.specs.declared.open_step.OpenStep.{OpenStep}
-use Rattle.bib_journal.specs.declared.open_step.OpenStep.TheVariants.{NoStep}
 use Rattle.bib_journal.proofs.LoadLemmas.{memory_refuses, opened_short}
 use Rattle.bib_journal.proofs.changing.turn_opened.Goals as goal
 

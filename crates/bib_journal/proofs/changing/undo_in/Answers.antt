@@ -1,8 +1,4 @@
-use Rattle.std.proofs.Common.{◌≡◌, ◌-◌, drop, length, min, Option, IfSome, refl, ap, subst}
-use Rattle.bib_spec.specs.Text.{Text}
-use Rattle.history_spec.specs.Steps.{BelongTo, first_of}
-use Rattle.journal_format.specs.Contents.{Contents}
-use Rattle.bib_journal.specs.Loading.{SaysOf}
+use Rattle.bib_journal.proofs.Words.{◌≡◌, ◌-◌, drop, length, min, Option, IfSome, refl, ap, subst, Text, BelongTo, first_of, Contents, SaysOf}
 use Rattle.bib_journal.proofs.TakenBack.{undos_leave}
 use Rattle.bib_journal.proofs.changing.undo_in.Goals as goal
 

@@ -1,10 +1,4 @@
-use Rattle.std.proofs.Common.{rules, ◌≡◌, List, [], length, sym, subst, ◌∙◌, ap, arith}
-use Rattle.bib_spec.specs.Pieces.{Piece}
-use Rattle.history_spec.specs.Composing.{composed, StandApart, ends_of}
-use Rattle.history_spec.proofs.Around.{composed-stand_apart}
-use Rattle.history_spec.specs.Steps.{Step}
-use Rattle.bib_steps.specs.Amending.{edited_at}
-use Rattle.bib_steps.proofs.Edited.{spot_inside}
+use Rattle.bib_journal.proofs.Words.{rules, ◌≡◌, List, [], length, sym, subst, ◌∙◌, ap, arith, Piece, composed, StandApart, ends_of, composed-stand_apart, Step, edited_at, spot_inside}
 use Rattle.bib_journal.proofs.GrowLemmas.{grown_short, grown_ends_short, joined_inside}
 use Rattle.bib_journal.proofs.growing.grow_inside.Goals as goal
 

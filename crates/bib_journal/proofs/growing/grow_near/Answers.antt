@@ -1,9 +1,4 @@
-use Rattle.std.proofs.Common.{rules, ◌≡◌, List, [], length, sym, subst, ◌∙◌, ap, arith}
-use Rattle.bib_spec.specs.Pieces.{Piece}
-use Rattle.history_spec.specs.Composing.{composed, StandApart, ends_of}
-use Rattle.history_spec.specs.Steps.{Step}
-use Rattle.history_spec.proofs.Around.{composed-stand_apart}
-use Rattle.bib_steps.specs.Amending.{amended}
+use Rattle.bib_journal.proofs.Words.{rules, ◌≡◌, List, [], length, sym, subst, ◌∙◌, ap, arith, Piece, composed, StandApart, ends_of, Step, composed-stand_apart, amended}
 use Rattle.bib_journal.proofs.GrowLemmas.{grown_short, grown_ends_short}
 use Rattle.bib_journal.proofs.TextLens.{few_pieces}
 use Rattle.bib_journal.proofs.growing.grow_near.Goals as goal

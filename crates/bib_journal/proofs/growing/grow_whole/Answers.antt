@@ -1,8 +1,4 @@
-use Rattle.std.proofs.Common.{◌≡◌, List, [], sym, subst, ◌∙◌, ap}
-use Rattle.bib_spec.specs.Pieces.{Piece}
-use Rattle.history_spec.specs.Composing.{composed, StandApart, ends_of}
-use Rattle.history_spec.specs.Steps.{Step}
-use Rattle.history_spec.proofs.Around.{composed-stand_apart}
+use Rattle.bib_journal.proofs.Words.{◌≡◌, List, [], sym, subst, ◌∙◌, ap, Piece, composed, StandApart, ends_of, Step, composed-stand_apart}
 use Rattle.bib_journal.proofs.GrowLemmas.{grown_short, grown_ends_short}
 use Rattle.bib_journal.proofs.growing.grow_whole.Goals as goal
 

@@ -1,8 +1,7 @@
-use Rattle.std.proofs.Common.{◌≡◌, ℕ, get_or, set, List, sym, subst, ◌∙◌, ap, arith}
-use Rattle.bib_spec.specs.Bytes.{file_limit}
-use Rattle.bib_spec.specs.Pieces.{Piece, EndBy, reversed}
-use Rattle.bib_steps.specs.Amending.{HasSpot, edited, edited_at}
-use Rattle.bib_steps.proofs.Edited.{edited_at-set, spot_inside, spot_within}
+use Rattle.bib_journal.proofs.Words.{◌≡◌, ℕ, get_or, List, sym, subst, ◌∙◌, ap, arith, file_limit, Piece, EndBy, reversed, HasSpot, edited_at, spot_inside, spot_within}
+use Rattle.std.proofs.Common.{set}
+use Rattle.bib_steps.specs.Amending.{edited}
+use Rattle.bib_steps.proofs.Edited.{edited_at-set}
 use Rattle.bib_journal.proofs.inside.make_inside.Goals as goal
 
 -- the list with the edited piece in its place

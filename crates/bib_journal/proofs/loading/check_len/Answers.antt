@@ -1,6 +1,4 @@
-use Rattle.std.proofs.Common.{◌<◌, length, inl, rules, arith}
-use Rattle.bib_spec.specs.Bytes.{file_limit}
-use Rattle.bib_spec.specs.Fault.{too_long}
+use Rattle.bib_journal.proofs.Words.{◌<◌, length, inl, rules, arith, file_limit, too_long}
 use Rattle.bib_journal.proofs.loading.check_len.Goals as goal
 
 pub returns-then-file-gt-FILE_LIMIT-clause-start : goal.returns-then-file-gt-FILE_LIMIT-clause-start

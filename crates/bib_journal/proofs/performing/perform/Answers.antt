@@ -1,4 +1,4 @@
-use Rattle.std.proofs.Common.{rules}
+use Rattle.bib_journal.proofs.Words.{rules}
 use Rattle.bib_journal.proofs.OneMoreRequest.{does_more}
 use Rattle.bib_journal.proofs.performing.perform.Goals as goal
 

@@ -1,5 +1,4 @@
-use Rattle.std.proofs.Common.{take}
-use Rattle.bib_journal.specs.Session.{DoesAll}
+use Rattle.bib_journal.proofs.Words.{take, DoesAll}
 use Rattle.bib_journal.proofs.performing.perform.Given as goal
 
 abbrev pub invariant-each : goal.invariant-each

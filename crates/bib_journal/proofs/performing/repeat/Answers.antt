@@ -1,6 +1,4 @@
-use Rattle.std.proofs.Common.{rules, replicate, Some, sym, subst}
-use Rattle.bib_journal.specs.OpenSteps.{SessionState}
-use Rattle.bib_journal.specs.Session.{Performs}
+use Rattle.bib_journal.proofs.Words.{rules, replicate, Some, sym, subst, SessionState, Performs}
 use Rattle.bib_journal.proofs.OneMoreRequest.{repeats_more, repeats_up_to}
 use Rattle.bib_journal.proofs.performing.repeat.Goals as goal
 

@@ -1,5 +1,4 @@
-use Rattle.std.proofs.Common.{take, replicate}
-use Rattle.bib_journal.specs.Session.{DoesAll}
+use Rattle.bib_journal.proofs.Words.{take, replicate, DoesAll}
 use Rattle.bib_journal.proofs.performing.repeat.Given as goal
 
 abbrev pub invariant-each : goal.invariant-each

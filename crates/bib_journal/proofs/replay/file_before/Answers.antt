@@ -1,6 +1,4 @@
-use Rattle.std.proofs.Common.{◌≡◌, ◌-◌, List, true, length, take, drop, sym, ◌∙◌, ap, subst}
-use Rattle.bib_spec.specs.Text.{Text}
-use Rattle.history_spec.specs.Steps.{Step, LeadTo, BelongTo, first_of}
+use Rattle.bib_journal.proofs.Words.{◌≡◌, ◌-◌, List, true, length, take, drop, sym, ◌∙◌, ap, subst, Text, Step, LeadTo, BelongTo, first_of}
 use Rattle.bib_journal.proofs.TakenBack.{both_lead, parts_lead}
 use Rattle.bib_journal.proofs.replay.file_before.Goals as goal
 

@@ -1,7 +1,5 @@
-use Rattle.std.proofs.Common.{◌≡◌, List, [], ◌∷◌, ◌++◌, true, sym, subst, ◌∙◌, ap}
-use Rattle.bib_spec.specs.Pieces.{Piece}
-use Rattle.history_spec.specs.Steps.{Step, Leads, before}
-use Rattle.bib_journal.specs.Loading.{IsTurnable, AreTurnable}
+use Rattle.bib_journal.proofs.Words.{◌≡◌, List, [], ◌∷◌, ◌++◌, true, sym, subst, ◌∙◌, ap, Piece, Step, Leads, before, AreTurnable}
+use Rattle.bib_journal.specs.Loading.{IsTurnable}
 use Rattle.bib_journal.proofs.ReplayLemmas.{none_gone_back, one_gone_back, stuck_back}
 use Rattle.history_spec.proofs.StepLemmas.{all_pop}
 use Rattle.bib_journal.proofs.replay.go_back_over.Given.{Over}

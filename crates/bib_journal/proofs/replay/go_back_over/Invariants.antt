@@ -1,5 +1,4 @@
-use Rattle.std.proofs.Common.{length}
-use Rattle.bib_journal.specs.Loading.{AreTurnable}
+use Rattle.bib_journal.proofs.Words.{length, AreTurnable}
 use Rattle.bib_journal.proofs.ReplayLemmas.{AreGoneBack}
 use Rattle.bib_journal.proofs.replay.go_back_over.Given as goal
 

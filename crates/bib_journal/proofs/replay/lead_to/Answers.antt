@@ -1,7 +1,4 @@
-use Rattle.std.proofs.Common.{◌≡◌, true, sym, ◌∙◌, ap, subst}
-use Rattle.bib_spec.specs.Text.{Text}
-use Rattle.history_spec.specs.Steps.{LeadTo, LeadOn, first_of}
-use Rattle.bib_journal.specs.Loading.{last_of}
+use Rattle.bib_journal.proofs.Words.{◌≡◌, true, sym, ◌∙◌, ap, subst, Text, LeadTo, LeadOn, first_of, last_of}
 use Rattle.bib_journal.proofs.ReplayLemmas.{on_from_first}
 use Rattle.bib_journal.proofs.replay.lead_to.Goals as goal
 

@@ -1,6 +1,4 @@
-use Rattle.std.proofs.Common.{◌≡◌, List, ◌∙◌, ap}
-use Rattle.std.proofs.lemmas.Result.{IfOk-weaker}
-use Rattle.bib_spec.specs.Pieces.{Piece, applied, reversed}
+use Rattle.bib_journal.proofs.Words.{◌≡◌, List, ◌∙◌, ap, IfOk-weaker, Piece, applied, reversed}
 use Rattle.bib_journal.proofs.ReplayLemmas.{back_is_tested, back_is_allowed}
 use Rattle.bib_journal.proofs.replay.try_back.Goals as goal
 

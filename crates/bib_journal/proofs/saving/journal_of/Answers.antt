@@ -1,8 +1,4 @@
-use Rattle.std.proofs.Common.{◌∙◌, ap, subst, reverse}
-use Rattle.std.proofs.lemmas.Result.{IfOk-weaker}
-use Rattle.bib_spec.specs.Text.{Text}
-use Rattle.journal_format.specs.Contents.{IsDigest}
-use Rattle.journal_format.specs.JournalText.{journal_text}
+use Rattle.bib_journal.proofs.Words.{◌∙◌, ap, subst, reverse, IfOk-weaker, Text, IsDigest, journal_text}
 use Rattle.bib_journal.proofs.saving.journal_of.Goals as goal
 
 pub returns-clause-text : goal.returns-clause-text

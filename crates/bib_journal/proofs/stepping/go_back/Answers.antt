@@ -1,7 +1,4 @@
-use Rattle.std.proofs.Common.{◌≡◌, List, sym, subst}
-use Rattle.bib_spec.specs.Pieces.{Piece, reversed}
-use Rattle.history_spec.specs.Steps.{IsAllowed}
-use Rattle.history_spec.proofs.StepLemmas.{steps-lead-back}
+use Rattle.bib_journal.proofs.Words.{◌≡◌, List, sym, subst, Piece, reversed, IsAllowed, steps-lead-back}
 use Rattle.bib_journal.proofs.Turning.{can_turn}
 use Rattle.bib_journal.proofs.stepping.go_back.Goals as goal
 

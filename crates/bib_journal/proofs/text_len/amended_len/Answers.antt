@@ -1,6 +1,5 @@
-use Rattle.std.proofs.Common.{rules, ◌≡◌, ◌+◌, ◌-◌, ◌^◌, min, length, ◌∙◌, ap, arith}
-use Rattle.history_spec.specs.Composing.{Replacement, replaced}
-use Rattle.bib_steps.specs.Amending.{amended, IsWithin}
+use Rattle.bib_journal.proofs.Words.{rules, ◌≡◌, ◌+◌, ◌-◌, ◌^◌, min, length, ◌∙◌, ap, arith, Replacement, replaced, amended}
+use Rattle.bib_steps.specs.Amending.{IsWithin}
 use Rattle.bib_journal.proofs.TextLens.{texts_of, taken, texts_replaced, count_replaced, taken_short, both_taken_short, amended_texts, amended_count, changed}
 use Rattle.bib_journal.proofs.text_len.amended_len.Goals as goal
 

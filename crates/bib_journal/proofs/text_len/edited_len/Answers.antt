@@ -1,4 +1,4 @@
-use Rattle.bib_steps.proofs.Edited.{spot_within}
+use Rattle.bib_journal.proofs.Words.{spot_within}
 use Rattle.bib_journal.proofs.text_len.edited_len.Goals as goal
 
 pub edited_piece_len-requires : goal.edited_piece_len-requires

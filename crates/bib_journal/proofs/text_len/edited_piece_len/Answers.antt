@@ -1,5 +1,4 @@
-use Rattle.std.proofs.Common.{◌≡◌, ℕ, ◌+◌, ◌-◌, ◌^◌, min, length, decimal, ◌∙◌, ap, ap₂, arith}
-use Rattle.bib_spec.specs.Pieces.{Piece}
+use Rattle.bib_journal.proofs.Words.{◌≡◌, ℕ, ◌+◌, ◌-◌, ◌^◌, min, length, decimal, ◌∙◌, ap, ap₂, arith, Piece}
 use Rattle.bib_steps.specs.Amending.{edited}
 use Rattle.bib_journal.proofs.TextLens.{written, edited_text, length-edited_old, length-edited_new}
 use Rattle.bib_journal.proofs.text_len.edited_piece_len.Goals as goal

@@ -1,5 +1,4 @@
-use Rattle.std.proofs.Common.{◌+◌, ◌-◌, length}
-use Rattle.bib_keys.specs.Parents.{KeepTheSame}
+use Rattle.bib_keys.proofs.Words.{◌+◌, ◌-◌, length, KeepTheSame}
 use Rattle.bib_keys.proofs.label_bases.make_room.Given as goal
 
 abbrev pub invariant-grow : goal.invariant-grow

@@ -1,5 +1,4 @@
-use Rattle.std.proofs.lemmas.Result.{IfOk-weaker}
-use Rattle.bib_keys.specs.TakenKeys.{taken_in}
+use Rattle.bib_keys.proofs.Words.{IfOk-weaker, taken_in}
 use Rattle.bib_keys.proofs.making.free_key.Goals as goal
 
 pub returns : goal.returns

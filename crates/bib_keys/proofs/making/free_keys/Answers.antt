@@ -1,7 +1,5 @@
-use Rattle.std.proofs.Common.{length, refl, ◌∙◌, ap, arith}
+use Rattle.bib_keys.proofs.Words.{length, refl, ◌∙◌, ap, arith, free_key, taken_in}
 use Rattle.std.proofs.lemmas.Option.{slice_get_read}
-use Rattle.bib_spec.specs.MadeKeys.{free_key}
-use Rattle.bib_keys.specs.TakenKeys.{taken_in}
 use Rattle.bib_keys.proofs.MadeKeyLists.{made-more, made-all}
 use Rattle.bib_keys.proofs.making.free_keys.Goals as goal
 

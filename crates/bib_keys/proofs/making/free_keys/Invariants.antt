@@ -1,7 +1,6 @@
-use Rattle.std.proofs.Common.{◌+◌, ◌*◌, ◌≤◌, length}
+use Rattle.bib_keys.proofs.Words.{◌+◌, ◌≤◌, length, OfReading, taken_in}
+use Rattle.std.proofs.Common.{◌*◌}
 use Rattle.bib_spec.specs.Bytes.{file_limit}
-use Rattle.bib_store.specs.Meaning.{OfReading}
-use Rattle.bib_keys.specs.TakenKeys.{taken_in}
 use Rattle.bib_keys.proofs.MadeKeyLists.{AreMadeTo}
 use Rattle.bib_keys.proofs.making.free_keys.Given as goal
 

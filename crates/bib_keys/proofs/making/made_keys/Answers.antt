@@ -1,10 +1,4 @@
-use Rattle.std.proofs.Common.{◌≤◌, ◌<◌, length, sym, ◌∙◌, ap, subst, arith}
-use Rattle.std.specs.List.{AllByRecursion}
-use Rattle.std.proofs.lemmas.Result.{IfOk-weaker}
-use Rattle.bib_spec.specs.Bytes.{name_limit}
-use Rattle.bib_spec.specs.Reading.{Reading, Reads}
-use Rattle.bib_spec.specs.Records.{entries_of, dangling_texts, record_of}
-use Rattle.bib_keys.specs.MadeBase.{made_base}
+use Rattle.bib_keys.proofs.Words.{◌≤◌, ◌<◌, length, sym, ◌∙◌, ap, subst, arith, AllByRecursion, IfOk-weaker, name_limit, Reading, Reads, entries_of, dangling_texts, record_of, made_base}
 use Rattle.bib_keys.proofs.EntryCounts.{few-entries}
 use Rattle.bib_keys.proofs.MadeKeyLists.{bases_of, length-bases, base-at, made-none, made-all, pushed-more, pushed-short, was-made}
 use Rattle.bib_keys.proofs.Walks.{next-of}

@@ -1,9 +1,4 @@
-use Rattle.std.proofs.Common.{◌+◌, ◌≤◌, length}
-use Rattle.std.specs.List.{AllByRecursion}
-use Rattle.bib_spec.specs.Bytes.{name_limit}
-use Rattle.bib_spec.specs.Records.{entries_of, dangling_texts}
-use Rattle.bib_store.specs.Meaning.{OfReading}
-use Rattle.bib_keys.specs.Parents.{AreParents}
+use Rattle.bib_keys.proofs.Words.{◌+◌, ◌≤◌, length, AllByRecursion, name_limit, entries_of, dangling_texts, OfReading, AreParents}
 use Rattle.bib_keys.proofs.MadeKeyLists.{AreMadeTo, bases_of}
 use Rattle.bib_keys.proofs.making.made_keys.Given as goal
 

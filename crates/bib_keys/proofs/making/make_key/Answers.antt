@@ -1,6 +1,4 @@
-use Rattle.std.proofs.Common.{◌∙◌, ap}
-use Rattle.std.proofs.lemmas.Result.{IfOk-weaker}
-use Rattle.bib_spec.specs.MadeKeys.{free_key}
+use Rattle.bib_keys.proofs.Words.{◌∙◌, ap, IfOk-weaker, free_key}
 use Rattle.bib_keys.proofs.making.make_key.Goals as goal
 
 pub returns-clause-key : goal.returns-clause-key

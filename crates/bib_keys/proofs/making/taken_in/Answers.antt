@@ -1,6 +1,4 @@
-use Rattle.std.proofs.Common.{◌++◌, length, ap, arith}
-use Rattle.bib_spec.specs.Reading.{Reading, Reads}
-use Rattle.bib_spec.specs.Records.{entries_of, dangling_texts}
+use Rattle.bib_keys.proofs.Words.{◌++◌, length, ap, arith, Reading, Reads, entries_of, dangling_texts}
 use Rattle.bib_keys.proofs.EntryCounts.{few-entries}
 use Rattle.bib_keys.proofs.making.taken_in.Goals as goal
 

@@ -1,4 +1,4 @@
-use Rattle.bib_names.specs.Scanning.{AreBraces}
+use Rattle.bib_names.proofs.Words.{AreBraces}
 use Rattle.bib_names.proofs.CaseLemmas.{NoneDecides}
 use Rattle.bib_names.proofs.case.is_lower.Given as goal
 

@@ -1,5 +1,5 @@
-use Rattle.std.proofs.Common.{◌≡◌, length}
-use Rattle.bib_names.specs.Printing.{initial, first_initial}
+use Rattle.bib_names.proofs.Words.{◌≡◌, length, initial}
+use Rattle.bib_names.specs.Printing.{first_initial}
 use Rattle.bib_names.proofs.initial.initial.Given as goal
 
 abbrev pub decreases-loop-character : goal.decreases-loop-character

@@ -1,6 +1,5 @@
-use Rattle.std.proofs.Common.{◌≡◌, ℕ, zero, suc, ◌+◌, ◌-◌, ◌<◌, ◌≤◌, ◌++◌, [], ◌∷◌, List, take, refl, sym, ◌∙◌, ap, arith, append_assoc, append-nil, add-one}
-use Rattle.std.specs.List.{flat_map}
-use Rattle.bib_spec.specs.Text.{Text}
+use Rattle.bib_names.proofs.Words.{◌≡◌, ℕ, zero, suc, ◌+◌, ◌-◌, ◌<◌, ◌≤◌, ◌++◌, [], ◌∷◌, List, take, refl, sym, ◌∙◌, ap, arith, append-nil, flat_map, Text}
+use Rattle.std.proofs.Common.{append_assoc, add-one}
 use Rattle.bib_names.proofs.label.first_three.Goals as goal
 
 -- these characters joined

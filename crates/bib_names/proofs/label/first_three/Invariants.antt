@@ -1,7 +1,4 @@
-use Rattle.std.proofs.Common.{◌≡◌, ◌-◌, ◌++◌, take}
-use Rattle.std.specs.List.{flat_map}
-use Rattle.bib_spec.specs.Text.{Text}
-use Rattle.bib_names.specs.Label.{first_three}
+use Rattle.bib_names.proofs.Words.{◌≡◌, ◌-◌, ◌++◌, take, flat_map, Text, first_three}
 use Rattle.bib_names.proofs.label.first_three.Given as goal
 
 abbrev pub invariant-loop : goal.invariant-loop

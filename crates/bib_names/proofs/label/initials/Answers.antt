@@ -1,9 +1,4 @@
-use Rattle.std.proofs.Common.{◌≡◌, ◌∙◌, ◌++◌, List, sym, ap, append-nil}
-use Rattle.std.specs.List.{flat_map}
-use Rattle.std.proofs.lemmas.List.{drop_all}
-use Rattle.std.proofs.lemmas.Result.{IfOk-weaker}
-use Rattle.bib_names.specs.Words.{NameWord}
-use Rattle.bib_names.specs.Printing.{initial, finished}
+use Rattle.bib_names.proofs.Words.{◌≡◌, ◌∙◌, ◌++◌, List, sym, ap, append-nil, flat_map, drop_all, IfOk-weaker, NameWord, initial, finished}
 use Rattle.bib_names.proofs.LabelNameLaws.{group_initials}
 use Rattle.bib_names.proofs.label.initials.Goals as goal
 

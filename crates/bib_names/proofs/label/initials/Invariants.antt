@@ -1,6 +1,4 @@
-use Rattle.std.proofs.Common.{◌≡◌, ◌++◌, drop}
-use Rattle.std.specs.List.{flat_map}
-use Rattle.bib_names.specs.Printing.{initial}
+use Rattle.bib_names.proofs.Words.{◌≡◌, ◌++◌, drop, flat_map, initial}
 use Rattle.bib_names.proofs.label.initials.Given as goal
 
 -- the initials so far with those of the words that are left

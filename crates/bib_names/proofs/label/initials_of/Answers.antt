@@ -1,7 +1,4 @@
-use Rattle.std.proofs.Common.{map, Bor, List, refl}
-use Rattle.std.specs.List.{flat_map}
-use Rattle.bib_spec.specs.Text.{Text}
-use Rattle.bib_names.specs.Label.{initials_template, print_of}
+use Rattle.bib_names.proofs.Words.{map, Bor, List, refl, flat_map, Text, initials_template, print_of}
 use Rattle.bib_names.proofs.LoopSteps.{made_more, made_all}
 use Rattle.bib_names.proofs.label.initials_of.Goals as goal
 

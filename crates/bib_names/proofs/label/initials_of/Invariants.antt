@@ -1,6 +1,4 @@
-use Rattle.std.proofs.Common.{◌≡◌, ◌++◌, drop, map}
-use Rattle.std.specs.List.{flat_map}
-use Rattle.bib_names.specs.Label.{initials_template, print_of}
+use Rattle.bib_names.proofs.Words.{◌≡◌, ◌++◌, drop, map, flat_map, initials_template, print_of}
 use Rattle.bib_names.proofs.label.initials_of.Given as goal
 
 abbrev pub invariant-loop-name : goal.invariant-loop-name

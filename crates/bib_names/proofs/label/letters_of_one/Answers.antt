@@ -1,8 +1,5 @@
-use Rattle.std.proofs.Common.{◌≡◌, ◌∙◌, Some, sym}
-use Rattle.std.proofs.lemmas.Result.{IfOk-weaker}
-use Rattle.bib_spec.specs.Text.{Text}
-use Rattle.bib_names.specs.Label.{letters_of_one}
-use Rattle.bib_names.specs.LabelNames.{letters_printed}
+use Rattle.bib_names.proofs.Words.{◌≡◌, ◌∙◌, sym, IfOk-weaker, Text, letters_of_one, letters_printed}
+use Rattle.std.proofs.Common.{Some}
 use Rattle.bib_names.proofs.LabelNameLaws.{letters_one}
 use Rattle.bib_names.proofs.label.letters_of_one.Goals as goal
 

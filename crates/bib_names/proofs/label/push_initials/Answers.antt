@@ -1,5 +1,5 @@
-use Rattle.std.proofs.Common.{◌≡◌, ◌∙◌, Some, rules, sym}
-use Rattle.bib_names.specs.Label.{print_of, initials_template}
+use Rattle.bib_names.proofs.Words.{◌≡◌, ◌∙◌, rules, sym, print_of, initials_template}
+use Rattle.std.proofs.Common.{Some}
 use Rattle.bib_names.proofs.LabelNameLaws.{print_initials}
 use Rattle.bib_names.proofs.label.push_initials.Goals as goal
 

@@ -1,5 +1,4 @@
-use Rattle.std.proofs.Common.{◌≡◌, drop}
-use Rattle.bib_names.specs.Label.{text_in}
+use Rattle.bib_names.proofs.Words.{◌≡◌, drop, text_in}
 use Rattle.bib_names.proofs.label.text_in.Given as goal
 
 abbrev pub invariant-loop-field : goal.invariant-loop-field

@@ -1,8 +1,5 @@
-use Rattle.std.proofs.Common.{◌≡◌, ◌∙◌}
-use Rattle.std.proofs.lemmas.Result.{IfOk-weaker}
-use Rattle.bib_spec.specs.Text.{Text}
-use Rattle.bib_names.specs.Label.{label_base}
-use Rattle.bib_names.specs.LabelParts.{base_from, parts_of, parts_with}
+use Rattle.bib_names.proofs.Words.{◌≡◌, ◌∙◌, IfOk-weaker, Text, label_base, base_from, parts_with}
+use Rattle.bib_names.specs.LabelParts.{parts_of}
 use Rattle.bib_names.proofs.LabelPartLaws.{base_alone}
 use Rattle.bib_names.proofs.label_fields.base_of.Goals as goal
 

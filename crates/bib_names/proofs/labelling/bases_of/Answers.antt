@@ -1,8 +1,6 @@
-use Rattle.std.proofs.Common.{rules, ◌≡◌, ◌∙◌, ◌++◌, ◌∷◌, [], List, map, take, get_or, sym, ap}
-use Rattle.std.proofs.lemmas.List.{take_more, take_all, map-append}
-use Rattle.bib_spec.specs.Text.{Text}
+use Rattle.bib_names.proofs.Words.{rules, ◌≡◌, ◌∙◌, ◌++◌, ◌∷◌, [], List, map, take, get_or, sym, ap, take_all, map-append, Text, label_base}
+use Rattle.std.proofs.lemmas.List.{take_more}
 use Rattle.bib_data.specs.declared.record.Record.{Record}
-use Rattle.bib_names.specs.Label.{label_base}
 use Rattle.bib_names.proofs.labelling.bases_of.Goals as goal
 
 abbrev base : Record → Text

@@ -1,5 +1,4 @@
-use Rattle.std.proofs.Common.{◌≡◌, take, map}
-use Rattle.bib_names.specs.Label.{label_base}
+use Rattle.bib_names.proofs.Words.{◌≡◌, take, map, label_base}
 use Rattle.bib_names.proofs.labelling.bases_of.Given as goal
 
 abbrev pub invariant-loop-record : goal.invariant-loop-record

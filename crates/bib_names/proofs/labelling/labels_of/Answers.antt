@@ -1,6 +1,4 @@
-use Rattle.std.proofs.Common.{◌≡◌, get_or, refl, sym, ap, ◌∙◌, subst, cond, ◌+◌}
-use Rattle.std.specs.Str.{bytes_eq}
-use Rattle.bib_spec.specs.Text.{Text}
+use Rattle.bib_names.proofs.Words.{◌≡◌, get_or, refl, sym, ap, ◌∙◌, subst, cond, ◌+◌, bytes_eq, Text}
 use Rattle.bib_names.proofs.LabelLaws.{count_of_more, labels_more}
 use Rattle.bib_names.proofs.labelling.labels_of.Goals as goal
 

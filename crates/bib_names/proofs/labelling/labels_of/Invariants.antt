@@ -1,7 +1,4 @@
-use Rattle.std.proofs.Common.{◌≡◌, ℕ, List, map, take}
-use Rattle.std.specs.List.{range_with_len}
-use Rattle.bib_names.specs.Label.{count_of, label_at}
-use Rattle.bib_names.specs.Counts.{times}
+use Rattle.bib_names.proofs.Words.{◌≡◌, ℕ, List, map, take, range_with_len, count_of, label_at, times}
 use Rattle.bib_names.proofs.labelling.labels_of.Given as goal
 
 abbrev pub invariant-loop-base : goal.invariant-loop-base

@@ -1,4 +1,4 @@
-use Rattle.std.proofs.Common.{◌∙◌}
+use Rattle.bib_names.proofs.Words.{◌∙◌}
 use Rattle.bib_names.proofs.LabelLaws.{letters_more}
 use Rattle.bib_names.proofs.labelling.letters.Goals as goal
 

@@ -1,5 +1,4 @@
-use Rattle.std.proofs.Common.{◌≡◌, ◌++◌}
-use Rattle.bib_spec.specs.MadeKeys.{letters}
+use Rattle.bib_names.proofs.Words.{◌≡◌, ◌++◌, letters}
 use Rattle.bib_names.proofs.labelling.letters.Given as goal
 
 abbrev pub decreases-loop-rest : goal.decreases-loop-rest

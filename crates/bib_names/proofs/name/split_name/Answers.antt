@@ -1,4 +1,4 @@
-use Rattle.std.proofs.Common.{◌∙◌, sym, refl, arith}
+use Rattle.bib_names.proofs.Words.{◌∙◌, sym, refl, arith}
 use Rattle.std.proofs.lemmas.Result.{err_from_is_err_and}
 use Rattle.bib_names.specs.Name.{without_end}
 use Rattle.bib_names.proofs.CommaLemmas.{few_commas, many_commas}

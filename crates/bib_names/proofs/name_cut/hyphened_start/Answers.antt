@@ -1,8 +1,5 @@
-use Rattle.std.proofs.Common.{◌≡◌, ◌-◌, sym, ap, ◌∙◌, arith, length, take}
-use Rattle.bib_names.specs.Name.{is_free}
-use Rattle.std.proofs.lemmas.List.{take_all}
+use Rattle.bib_names.proofs.Words.{◌≡◌, ◌-◌, sym, ap, ◌∙◌, arith, length, take, is_free, take_all, IsTrimming-less, IsTrimming-done, IsTrimming-none}
 use Rattle.bib_text.specs.Trimming.{up_to_last}
-use Rattle.bib_text.proofs.TrimLemmas.{IsTrimming-less, IsTrimming-done, IsTrimming-none}
 use Rattle.bib_names.proofs.name_cut.hyphened_start.Goals as goal
 use Rattle.bib_names.proofs.name_cut.hyphened_start.Goals.{then-loop-end-test+else-not-is_free, else-loop-end-test}
 

@@ -1,5 +1,4 @@
-use Rattle.std.proofs.Common.{refl, sym, ◌∙◌, arith}
-use Rattle.std.proofs.lemmas.List.{map-append}
+use Rattle.bib_names.proofs.Words.{refl, sym, ◌∙◌, arith, map-append}
 use Rattle.bib_names.proofs.BraceLemmas.{more_braces}
 use Rattle.bib_names.proofs.NameListLemmas.{names_cut, names_on, names_end, names_of-words}
 use Rattle.bib_names.proofs.name_list.names_of.Goals as goal

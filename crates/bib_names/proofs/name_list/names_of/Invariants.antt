@@ -1,5 +1,4 @@
-use Rattle.std.proofs.Common.{map}
-use Rattle.bib_names.specs.Scanning.{AreBraces}
+use Rattle.bib_names.proofs.Words.{map, AreBraces}
 use Rattle.bib_names.proofs.NameListLemmas.{AreNamesSoFar}
 use Rattle.bib_names.proofs.name_list.names_of.Given as goal
 

@@ -1,4 +1,4 @@
-use Rattle.std.proofs.Common.{sym, ◌∙◌, arith, refl}
+use Rattle.bib_names.proofs.Words.{sym, ◌∙◌, arith, refl}
 use Rattle.bib_names.proofs.BraceLemmas.{more_braces_from}
 use Rattle.bib_names.proofs.CommaLemmas.{comma_found, comma_on}
 use Rattle.bib_names.proofs.pieces.comma_from.Goals as goal

@@ -1,4 +1,4 @@
-use Rattle.std.proofs.Common.{sym, ◌∙◌}
+use Rattle.bib_names.proofs.Words.{sym, ◌∙◌}
 use Rattle.bib_names.proofs.CommaLemmas.{parts_of_more}
 use Rattle.bib_names.proofs.pieces.pieces_after.Goals as goal
 

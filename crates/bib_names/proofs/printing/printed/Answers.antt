@@ -1,7 +1,4 @@
-use Rattle.std.proofs.Common.{◌≡◌, ◌∙◌, ◌<◌, ◌≤◌, List, length, get_or, refl, ap, arith}
-use Rattle.std.specs.List.{flat_map}
-use Rattle.bib_names.specs.Printing.{printed_with_trail}
-use Rattle.bib_names.specs.declared.template.Group.{Group}
+use Rattle.bib_names.proofs.Words.{◌≡◌, ◌∙◌, ◌<◌, ◌≤◌, List, length, get_or, refl, ap, arith, flat_map, printed_with_trail, Group}
 use Rattle.bib_names.proofs.LoopSteps.{made_more, made_all}
 use Rattle.bib_names.proofs.printing.printed.Goals as goal
 

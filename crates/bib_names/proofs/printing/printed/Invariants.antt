@@ -1,6 +1,4 @@
-use Rattle.std.proofs.Common.{◌≡◌, ◌++◌, drop}
-use Rattle.std.specs.List.{flat_map}
-use Rattle.bib_names.specs.Printing.{printed_with_trail, printed}
+use Rattle.bib_names.proofs.Words.{◌≡◌, ◌++◌, drop, flat_map, printed_with_trail, printed}
 use Rattle.bib_names.proofs.printing.printed.Given as goal
 
 -- the output so far with the groups that are left

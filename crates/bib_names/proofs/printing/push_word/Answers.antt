@@ -1,7 +1,5 @@
-use Rattle.std.proofs.Common.{◌≡◌, ◌∙◌, ℕ, ◌+◌, eqb, length, rules, refl, ap, arith}
+use Rattle.bib_names.proofs.Words.{◌≡◌, ◌∙◌, ℕ, ◌+◌, eqb, length, rules, refl, ap, arith, Text, shown, joined}
 use Rattle.std.proofs.lemmas.Result.{on_ok_weaker}
-use Rattle.bib_spec.specs.Text.{Text}
-use Rattle.bib_names.specs.Printing.{shown, joined}
 use Rattle.bib_names.proofs.PrintLemmas.{word_then, word_last}
 use Rattle.bib_names.proofs.printing.push_word.Goals as goal
 

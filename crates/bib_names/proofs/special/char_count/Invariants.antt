@@ -1,5 +1,4 @@
-use Rattle.std.proofs.Common.{◌≡◌, ◌-◌, ◌+◌, ◌≤◌, length}
-use Rattle.bib_names.specs.Special.{text_chars}
+use Rattle.bib_names.proofs.Words.{◌≡◌, ◌-◌, ◌+◌, ◌≤◌, length, text_chars}
 use Rattle.bib_names.proofs.special.char_count.Given as goal
 
 abbrev pub decreases-loop-count : goal.decreases-loop-count

@@ -1,4 +1,4 @@
-use Rattle.std.proofs.Common.{◌+◌, sym, ◌∙◌, arith, refl}
+use Rattle.bib_names.proofs.Words.{◌+◌, sym, ◌∙◌, arith, refl}
 use Rattle.bib_names.proofs.BraceLemmas.{more_braces_from, level_from}
 use Rattle.bib_names.proofs.SpecialLemmas.{group_found, none_more}
 use Rattle.bib_names.proofs.special.group_end.Goals as goal

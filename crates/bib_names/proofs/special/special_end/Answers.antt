@@ -1,4 +1,4 @@
-use Rattle.std.proofs.Common.{◌∙◌, sym}
+use Rattle.bib_names.proofs.Words.{◌∙◌, sym}
 use Rattle.bib_names.proofs.SpecialLemmas.{special_at, special_endless, special_none}
 use Rattle.bib_names.proofs.special.special_end.Goals as goal
 

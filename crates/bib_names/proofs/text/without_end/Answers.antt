@@ -1,7 +1,6 @@
-use Rattle.std.proofs.Common.{◌-◌, sym, ap, ◌∙◌, arith}
+use Rattle.bib_names.proofs.Words.{◌-◌, sym, ap, ◌∙◌, arith, is_dropped_at_end, IsTrimming-less, IsTrimming-done, IsTrimming-none}
 use Rattle.std.specs.Prelude.{not}
-use Rattle.bib_names.specs.Marks.{is_dropped_at_end}
-use Rattle.bib_text.proofs.TrimLemmas.{IsTrimming-less, IsTrimming-done, IsTrimming-none, trimmed_at}
+use Rattle.bib_text.proofs.TrimLemmas.{trimmed_at}
 use Rattle.bib_names.proofs.text.without_end.Goals as goal
 use Rattle.bib_names.proofs.text.without_end.Goals.{then-loop-end-test+else-is_dropped_at_end, else-loop-end-test}
 

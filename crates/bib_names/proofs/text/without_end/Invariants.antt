@@ -1,7 +1,5 @@
-use Rattle.std.proofs.Common.{length}
+use Rattle.bib_names.proofs.Words.{length, is_dropped_at_end, IsTrimming}
 use Rattle.std.specs.Prelude.{not}
-use Rattle.bib_names.specs.Marks.{is_dropped_at_end}
-use Rattle.bib_text.proofs.TrimLemmas.{IsTrimming}
 use Rattle.bib_names.proofs.text.without_end.Given as goal
 
 abbrev pub decreases-loop-end : goal.decreases-loop-end

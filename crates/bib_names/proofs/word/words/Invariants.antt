@@ -1,4 +1,4 @@
-use Rattle.bib_names.specs.Scanning.{AreBraces}
+use Rattle.bib_names.proofs.Words.{AreBraces}
 use Rattle.bib_names.proofs.WordLemmas.{AreWordsSoFar}
 use Rattle.bib_names.proofs.word.words.Given as goal
 

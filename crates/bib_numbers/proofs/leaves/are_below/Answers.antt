@@ -1,8 +1,5 @@
-use Rattle.std.proofs.Common.{◌≡◌, ◌-◌, ◌∙◌, ℕ, List, [], Some, length, slice_get, sym, ap, arith}
-use Rattle.std.specs.Option.{option_copied}
-use Rattle.std.proofs.lemmas.Option.{slice_get_within, get_or_from_slice_get}
-use Rattle.bib_pages.specs.Pages.{page_at}
-use Rattle.bib_numbers.specs.Moves.{ends_below}
+use Rattle.bib_numbers.proofs.Words.{◌≡◌, ◌-◌, ◌∙◌, ℕ, List, [], Some, length, sym, ap, arith, option_copied, slice_get_within, get_or_from_slice_get, page_at, ends_below}
+use Rattle.std.proofs.Common.{slice_get}
 use Rattle.bib_numbers.proofs.SoughtPages.{rank_last}
 use Rattle.bib_numbers.proofs.leaves.are_below.Goals as goal
 

@@ -1,10 +1,5 @@
-use Rattle.std.proofs.Common.{◌≡◌, ◌<◌, ◌+◌, ◌∙◌, ℕ, List, [], length, rules, sym, subst, ap, ap₂, arith}
-use Rattle.std.proofs.lemmas.List.{get_or_read}
-use Rattle.std.proofs.lemmas.List.Sorted.{IsPartitionPoint-from_clause}
-use Rattle.bib_pages.specs.Pages.{page_at}
+use Rattle.bib_numbers.proofs.Words.{◌≡◌, ◌<◌, ◌+◌, ◌∙◌, ℕ, List, [], length, rules, sym, subst, ap, ap₂, arith, get_or_read, IsPartitionPoint-from_clause, page_at, Ascend, rank_in, ends_below}
 use Rattle.bib_pages.proofs.Paging.{length-joined-split}
-use Rattle.bib_numbers.specs.Numbers.{Ascend, rank_in}
-use Rattle.bib_numbers.specs.Moves.{ends_below}
 use Rattle.bib_numbers.proofs.FilledPages.{length-starts, start_read}
 use Rattle.bib_numbers.proofs.SoughtPages.{pages_parted, rank_past, rank_at, page_ascends}
 use Rattle.bib_numbers.proofs.leaves.count_searched.Goals as goal

@@ -1,4 +1,4 @@
-use Rattle.bib_pages.specs.Pages.{IsOnWay}
+use Rattle.bib_numbers.proofs.Words.{IsOnWay}
 use Rattle.bib_numbers.proofs.leaves.locate_from.Given as goal
 
 abbrev pub invariant-pass : goal.invariant-pass

@@ -1,8 +1,4 @@
-use Rattle.std.proofs.Common.{◌∙◌, ℕ, List, length, insert, ap, sym, subst, arith}
-use Rattle.std.proofs.lemmas.Result.{on_ok_weaker, on_err_weaker}
-use Rattle.bib_pages.specs.Pages.{joined, IsPlace, IsGap}
-use Rattle.bib_pages.proofs.Paging.{insert_at, settled}
-use Rattle.bib_numbers.specs.Moves.{AreFilled}
+use Rattle.bib_numbers.proofs.Words.{◌∙◌, ℕ, List, length, insert, ap, sym, subst, arith, on_ok_weaker, on_err_weaker, joined, IsPlace, IsGap, insert_at, settled, AreFilled}
 use Rattle.bib_numbers.proofs.FilledPages.{length-starts, filled_put}
 use Rattle.bib_numbers.proofs.leaves.put.Goals as goal
 

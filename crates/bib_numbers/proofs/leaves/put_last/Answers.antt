@@ -1,9 +1,4 @@
-use Rattle.std.proofs.Common.{◌≡◌, ◌+◌, ◌-◌, ◌∙◌, ◌++◌, ◌∷◌, ℕ, List, [], length, insert, ap, ap₂, sym, subst, arith, zero-add}
-use Rattle.std.proofs.lemmas.List.{get_or_read}
-use Rattle.std.proofs.lemmas.Result.{on_ok_weaker, on_err_weaker}
-use Rattle.bib_pages.specs.Pages.{joined, page_at, IsGap}
-use Rattle.bib_pages.proofs.Paging.{insert_at, settled}
-use Rattle.bib_numbers.specs.Moves.{starts, AreFilled}
+use Rattle.bib_numbers.proofs.Words.{◌≡◌, ◌+◌, ◌-◌, ◌∙◌, ◌++◌, ◌∷◌, ℕ, List, [], length, insert, ap, ap₂, sym, subst, arith, zero-add, get_or_read, on_ok_weaker, on_err_weaker, joined, page_at, IsGap, insert_at, settled, starts, AreFilled}
 use Rattle.bib_numbers.proofs.FilledPages.{starts-added, starts-last, filled_put, last_gap, insert-last, both_ok, both_err}
 use Rattle.bib_numbers.proofs.leaves.put_last.Goals as goal
 

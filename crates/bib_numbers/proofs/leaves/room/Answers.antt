@@ -1,8 +1,5 @@
-use Rattle.std.proofs.Common.{◌≡◌, ◌≤◌, ◌<◌, ◌+◌, ◌-◌, ◌∙◌, ℕ, List, [], length, ap, subst, sym, arith}
-use Rattle.std.proofs.lemmas.List.{get_or_read}
-use Rattle.bib_pages.specs.Pages.{joined, page_at, IsGap}
+use Rattle.bib_numbers.proofs.Words.{◌≡◌, ◌≤◌, ◌<◌, ◌+◌, ◌-◌, ◌∙◌, ℕ, List, [], length, ap, subst, sym, arith, get_or_read, joined, page_at, IsGap, AreFilled}
 use Rattle.bib_pages.proofs.Paging.{joined-parted, gap_before, gap_after}
-use Rattle.bib_numbers.specs.Moves.{AreFilled}
 use Rattle.bib_numbers.proofs.FilledPages.{filled_parted}
 use Rattle.bib_numbers.proofs.leaves.room.Goals as goal
 

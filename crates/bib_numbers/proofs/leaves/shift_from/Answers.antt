@@ -1,7 +1,4 @@
-use Rattle.std.proofs.Common.{◌≡◌, ◌<◌, ◌+◌, ◌∙◌, ℕ, suc, List, [], length, map, set, ap, ap₂, arith}
-use Rattle.std.proofs.lemmas.List.{get_or_default, length-set}
-use Rattle.bib_pages.specs.Pages.{page_at}
-use Rattle.bib_numbers.specs.Moves.{plus, moved_from}
+use Rattle.bib_numbers.proofs.Words.{◌≡◌, ◌<◌, ◌+◌, ◌∙◌, ℕ, suc, List, [], length, map, set, ap, ap₂, arith, get_or_default, length-set, page_at, plus, moved_from}
 use Rattle.bib_numbers.proofs.Moves.{moved_so_far, moved_read, moved_more, moved_all, shifted_by}
 use Rattle.bib_numbers.proofs.leaves.shift_from.Goals as goal
 

@@ -1,6 +1,4 @@
-use Rattle.std.proofs.Common.{◌≡◌, ◌+◌, map, set}
-use Rattle.bib_pages.specs.Pages.{page_at}
-use Rattle.bib_numbers.specs.Moves.{plus, moved_from}
+use Rattle.bib_numbers.proofs.Words.{◌≡◌, ◌+◌, map, set, page_at, plus, moved_from}
 use Rattle.bib_numbers.proofs.Moves.{moved_so_far}
 use Rattle.bib_numbers.proofs.leaves.shift_from.Given as goal
 

@@ -1,9 +1,6 @@
-use Rattle.std.proofs.Common.{◌≡◌, ◌∙◌, ℕ, List, [], length, set, remove, ap, subst, sym, arith}
-use Rattle.std.proofs.lemmas.List.{get_or_read, length-set}
+use Rattle.bib_numbers.proofs.Words.{◌≡◌, ◌∙◌, ℕ, List, [], length, set, remove, ap, subst, sym, arith, get_or_read, length-set, joined, page_at, IsPlace, AreFilled}
 use Rattle.std.proofs.lemmas.List.Edits.{length-remove}
-use Rattle.bib_pages.specs.Pages.{joined, page_at, IsPlace}
 use Rattle.bib_pages.proofs.Paging.{remove_at, remove_page}
-use Rattle.bib_numbers.specs.Moves.{AreFilled}
 use Rattle.bib_numbers.proofs.FilledPages.{length-starts, filled_remove, filled_set}
 use Rattle.bib_numbers.proofs.leaves.take_away.Goals as goal
 

@@ -1,5 +1,5 @@
-use Rattle.std.proofs.Common.{◌≡◌, ◌+◌, ◌∙◌, ℕ, List, suc, slice_index_or, slice_set, ap, ap₂, arith}
-use Rattle.bib_numbers.specs.Moves.{plus}
+use Rattle.bib_numbers.proofs.Words.{◌≡◌, ◌+◌, ◌∙◌, ℕ, List, suc, slice_index_or, ap, ap₂, arith, plus}
+use Rattle.std.proofs.Common.{slice_set}
 use Rattle.bib_numbers.proofs.Moves.{moved_so_far, moved_none, moved_read, moved_more, moved_all}
 use Rattle.bib_numbers.proofs.moving.move_from.Goals as goal
 

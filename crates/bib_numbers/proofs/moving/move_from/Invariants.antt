@@ -1,5 +1,4 @@
-use Rattle.std.proofs.Common.{◌≡◌}
-use Rattle.bib_numbers.specs.Moves.{plus}
+use Rattle.bib_numbers.proofs.Words.{◌≡◌, plus}
 use Rattle.bib_numbers.proofs.Moves.{moved_so_far}
 use Rattle.bib_numbers.proofs.moving.move_from.Given as goal
 

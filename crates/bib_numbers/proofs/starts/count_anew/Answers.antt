@@ -1,6 +1,4 @@
-use Rattle.std.proofs.Common.{◌≡◌, ◌<◌, ◌∙◌, ℕ, [], length, ap, arith}
-use Rattle.std.proofs.lemmas.List.{get_or_read}
-use Rattle.bib_pages.specs.Pages.{page_at}
+use Rattle.bib_numbers.proofs.Words.{◌≡◌, ◌<◌, ◌∙◌, ℕ, [], length, ap, arith, get_or_read, page_at}
 use Rattle.bib_numbers.proofs.FilledPages.{counted_start, counted_more, counted_all, count_fits}
 use Rattle.bib_numbers.proofs.starts.count_anew.Goals as goal
 

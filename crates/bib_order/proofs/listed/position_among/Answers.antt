@@ -1,6 +1,4 @@
-use Rattle.std.proofs.Common.{subst, sym}
-use Rattle.std.specs.Option.{IfNone}
-use Rattle.bib_order.specs.Orders.{Lacks}
+use Rattle.bib_order.proofs.Words.{subst, sym, IfNone, Lacks}
 use Rattle.bib_order.proofs.Ascending.{search_lacks}
 use Rattle.bib_order.proofs.listed.position_among.Goals as goal
 

@@ -1,5 +1,4 @@
-use Rattle.std.proofs.Common.{take}
-use Rattle.bib_order.specs.Orders.{Lacks}
+use Rattle.bib_order.proofs.Words.{take, Lacks}
 use Rattle.bib_order.proofs.sheet.position_in.Given as goal
 
 abbrev pub invariant-pass : goal.invariant-pass

@@ -1,6 +1,4 @@
-use Rattle.std.proofs.Common.{◌∙◌, ℕ, List, [], get_or, ap, sym}
-use Rattle.std.proofs.lemmas.List.{get_or_read}
-use Rattle.bib_pages.proofs.Paging.{read_at}
+use Rattle.bib_order.proofs.Words.{◌∙◌, ℕ, List, [], get_or, ap, sym, get_or_read, read_at}
 use Rattle.bib_order.proofs.sheets.id_of.Goals as goal
 
 pub returns : goal.returns

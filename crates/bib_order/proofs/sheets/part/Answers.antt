@@ -1,4 +1,4 @@
-use Rattle.std.proofs.Common.{◌+◌, ◌∙◌, ℕ, List, get_or, insert, ap}
+use Rattle.bib_order.proofs.Words.{◌+◌, ◌∙◌, ℕ, List, get_or, insert, ap}
 use Rattle.bib_pages.proofs.Paging.{parted_by}
 use Rattle.bib_order.proofs.sheets.part.Goals as goal
 

@@ -1,5 +1,4 @@
-use Rattle.std.proofs.Common.{◌∙◌, ℕ, List, insert, ap, subst}
-use Rattle.bib_pages.specs.Pages.{joined, IsGap}
+use Rattle.bib_order.proofs.Words.{◌∙◌, ℕ, List, insert, ap, subst, joined, IsGap}
 use Rattle.std.proofs.lemmas.Result.{on_ok_weaker}
 use Rattle.bib_pages.proofs.Paging.{insert_at}
 use Rattle.bib_order.proofs.sheets.put.Goals as goal

@@ -1,8 +1,5 @@
-use Rattle.std.proofs.Common.{◌≡◌, ◌<◌, ◌∙◌, ◌+◌, ℕ, List, [], length, ap, sym, arith}
-use Rattle.std.specs.List.{slice_get}
-use Rattle.std.proofs.lemmas.List.{get_or_read}
-use Rattle.bib_pages.specs.Pages.{page_at}
-use Rattle.bib_pages.proofs.Paging.{length-joined-more, length-joined-take}
+use Rattle.bib_order.proofs.Words.{◌≡◌, ◌<◌, ◌∙◌, ◌+◌, ℕ, List, [], length, ap, sym, arith, slice_get, get_or_read, page_at, length-joined-more}
+use Rattle.bib_pages.proofs.Paging.{length-joined-take}
 use Rattle.bib_order.proofs.Ordering.{searched_found}
 use Rattle.bib_order.proofs.sheets.seek.Goals as goal
 

@@ -1,4 +1,4 @@
-use Rattle.bib_order.specs.Orders.{IsTold}
+use Rattle.bib_order.proofs.Words.{IsTold}
 use Rattle.bib_order.proofs.sheets.set_home.Given as goal
 
 abbrev pub invariant-pass : goal.invariant-pass

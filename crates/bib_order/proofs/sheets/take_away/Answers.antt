@@ -1,7 +1,4 @@
-use Rattle.std.proofs.Common.{◌∙◌, ℕ, List, [], get_or, ap, sym, subst}
-use Rattle.std.proofs.lemmas.List.{get_or_read}
-use Rattle.bib_pages.specs.Pages.{IsPlace}
-use Rattle.bib_pages.proofs.Paging.{read_at}
+use Rattle.bib_order.proofs.Words.{◌∙◌, ℕ, List, [], get_or, ap, sym, subst, get_or_read, IsPlace, read_at}
 use Rattle.bib_order.proofs.sheets.take_away.Goals as goal
 
 pub returns-clause-id : goal.returns-clause-id

@@ -1,6 +1,4 @@
-use Rattle.std.proofs.Common.{◌≡◌, ◌∙◌, ℕ, List, [], length, set, remove, ap, arith}
-use Rattle.std.proofs.lemmas.List.{get_or_read}
-use Rattle.bib_pages.specs.Pages.{joined, page_at}
+use Rattle.bib_order.proofs.Words.{◌≡◌, ◌∙◌, ℕ, List, [], length, set, remove, ap, arith, get_or_read, joined, page_at}
 use Rattle.bib_pages.proofs.Paging.{remove_at, remove_page}
 use Rattle.bib_order.proofs.sheets.take_out.Goals as goal
 

@@ -1,9 +1,6 @@
-use Rattle.std.proofs.Common.{◌≡◌, ◌∙◌, ◌+◌, ◌++◌, ◌∷◌, [], false, true, List, length, take, drop, reverse, refl, rules, sym, ap}
+use Rattle.bib_ris.proofs.Words.{◌≡◌, ◌∙◌, ◌+◌, ◌++◌, ◌∷◌, [], false, true, List, length, take, drop, reverse, refl, rules, sym, ap, Text, is_new_key, NewEntry, with_keys}
 use Rattle.std.proofs.lemmas.List.{reverse-append, length-set}
 use Rattle.std.proofs.lemmas.Option.{slice_get_read}
-use Rattle.bib_spec.specs.Text.{Text, is_new_key}
-use Rattle.bib_data.specs.declared.edit.NewEntry.{NewEntry}
-use Rattle.bib_ris.specs.Drafts.{with_keys}
 use Rattle.bib_ris.proofs.GivenKeys.{key_kept, key_given}
 use Rattle.bib_ris.proofs.drafts.give_key.Goals as goal
 

@@ -1,5 +1,4 @@
-use Rattle.std.proofs.Common.{◌≡◌, take}
-use Rattle.bib_ris.specs.Drafts.{usable_keys}
+use Rattle.bib_ris.proofs.Words.{◌≡◌, take, usable_keys}
 use Rattle.bib_ris.proofs.drafts.usable_keys.Given as goal
 
 abbrev pub invariant-entries : goal.invariant-entries

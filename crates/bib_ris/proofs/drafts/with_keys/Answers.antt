@@ -1,4 +1,4 @@
-use Rattle.std.proofs.Common.{◌∙◌, reverse, sym, arith}
+use Rattle.bib_ris.proofs.Words.{◌∙◌, reverse, sym, arith}
 use Rattle.bib_ris.proofs.GivenKeys.{keys_given}
 use Rattle.bib_ris.proofs.drafts.with_keys.Goals as goal
 

@@ -1,5 +1,4 @@
-use Rattle.std.proofs.Common.{◌≡◌, ◌++◌, length, take, drop, reverse}
-use Rattle.bib_ris.specs.Drafts.{with_keys}
+use Rattle.bib_ris.proofs.Words.{◌≡◌, ◌++◌, length, take, drop, reverse, with_keys}
 use Rattle.bib_ris.proofs.drafts.with_keys.Given as goal
 
 abbrev pub invariant-entries : goal.invariant-entries

@@ -1,5 +1,4 @@
-use Rattle.std.proofs.Common.{◌≡◌, ◌++◌, take}
-use Rattle.std.specs.List.{flat_map}
+use Rattle.bib_ris.proofs.Words.{◌≡◌, ◌++◌, take, flat_map}
 use Rattle.bib_ris.specs.Dropped.{dropped_line}
 use Rattle.bib_ris.proofs.dropping.add_names.Given as goal
 

@@ -1,8 +1,4 @@
-use Rattle.std.proofs.Common.{◌∙◌, ◌++◌, ◌<◌, [], length, get_or, rules, ap}
-use Rattle.std.specs.Option.{option_map_or}
-use Rattle.bib_spec.specs.Text.{Text}
-use Rattle.bib_spec.specs.Records.{entries_of, expanded}
-use Rattle.bib_ris.specs.Dropped.{dropped_lines}
+use Rattle.bib_ris.proofs.Words.{◌∙◌, ◌++◌, ◌<◌, [], length, get_or, rules, ap, option_map_or, Text, entries_of, expanded, dropped_lines}
 use Rattle.bib_ris.proofs.EntriesDropped.{dropped_more}
 use Rattle.bib_ris.proofs.dropping.entries_dropped.Goals as goal
 

@@ -1,6 +1,4 @@
-use Rattle.std.proofs.Common.{◌≡◌, take}
-use Rattle.bib_spec.specs.Records.{entries_of}
-use Rattle.bib_store.specs.Meaning.{OfReading}
+use Rattle.bib_ris.proofs.Words.{◌≡◌, take, entries_of, OfReading}
 use Rattle.bib_ris.specs.Dropped.{entries_dropped}
 use Rattle.bib_ris.proofs.dropping.entries_dropped.Given as goal
 

@@ -1,11 +1,5 @@
-use Rattle.std.proofs.Common.{◌≡◌, ◌∙◌, ◌++◌, [], List, Option, Some, option_map, ap, sym, subst}
-use Rattle.std.specs.Option.{option_map_or}
-use Rattle.bib_spec.specs.Text.{Text}
-use Rattle.bib_spec.specs.Records.{Record, entries_of, expanded}
-use Rattle.bib_store.specs.Choosing.{with_chosen}
-use Rattle.ris_text.specs.declared.records.RisRecord.{RisRecord}
-use Rattle.ris_text.specs.Writing.{record_text, is_well_formed}
-use Rattle.ris_format.specs.Mapping.{ris}
+use Rattle.bib_ris.proofs.Words.{◌≡◌, ◌∙◌, ◌++◌, [], List, Option, Some, option_map, ap, sym, subst, option_map_or, Text, Record, entries_of, expanded, with_chosen, RisRecord, record_text, ris}
+use Rattle.ris_text.specs.Writing.{is_well_formed}
 use Rattle.bib_ris.proofs.RisFields.{ris_gathered}
 use Rattle.bib_ris.proofs.exporting.add_entry.Goals as goal
 

@@ -1,9 +1,4 @@
-use Rattle.std.proofs.Common.{◌∙◌, ◌++◌, ◌<◌, [], length, get_or, rules, ap}
-use Rattle.std.specs.Option.{option_map_or}
-use Rattle.bib_spec.specs.Text.{Text}
-use Rattle.bib_spec.specs.Records.{entries_of, expanded}
-use Rattle.ris_text.specs.Writing.{record_text}
-use Rattle.ris_format.specs.Mapping.{ris}
+use Rattle.bib_ris.proofs.Words.{◌∙◌, ◌++◌, ◌<◌, [], length, get_or, rules, ap, option_map_or, Text, entries_of, expanded, record_text, ris}
 use Rattle.bib_ris.proofs.EntriesRis.{texts_more}
 use Rattle.bib_ris.proofs.exporting.entries_ris.Goals as goal
 

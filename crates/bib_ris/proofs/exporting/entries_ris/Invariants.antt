@@ -1,6 +1,4 @@
-use Rattle.std.proofs.Common.{◌≡◌, take}
-use Rattle.bib_spec.specs.Records.{entries_of}
-use Rattle.bib_store.specs.Meaning.{OfReading}
+use Rattle.bib_ris.proofs.Words.{◌≡◌, take, entries_of, OfReading}
 use Rattle.bib_ris.specs.Export.{entries_ris}
 use Rattle.bib_ris.proofs.exporting.entries_ris.Given as goal
 

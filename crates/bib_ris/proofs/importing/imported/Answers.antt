@@ -1,10 +1,5 @@
-use Rattle.std.proofs.Common.{◌∙◌, List, ap}
-use Rattle.bib_spec.specs.Text.{Text}
-use Rattle.bib_spec.specs.MadeKeys.{made_keys}
-use Rattle.bib_data.specs.declared.edit.NewEntry.{NewEntry}
+use Rattle.bib_ris.proofs.Words.{◌∙◌, List, ap, Text, made_keys, NewEntry, usable_ids, bases_of, usable_keys, with_keys}
 use Rattle.bib_keys.specs.TakenKeys.{taken_in}
-use Rattle.bib_ris.specs.Import.{usable_ids}
-use Rattle.bib_ris.specs.Drafts.{bases_of, usable_keys, with_keys}
 use Rattle.bib_ris.proofs.KeyedRecords.{usable-entries, keyed-with}
 use Rattle.bib_ris.proofs.importing.imported.Goals as goal
 

@@ -1,6 +1,5 @@
-use Rattle.std.proofs.Common.{◌≡◌, codes, rules}
-use Rattle.std.proofs.lemmas.Result.{IfOk-weaker}
-use Rattle.bib_run.specs.Answers.{of_reading, check, cite, forget, lint, explain}
+use Rattle.bib_run.proofs.Words.{◌≡◌, codes, rules, IfOk-weaker, of_reading, forget, lint, explain}
+use Rattle.bib_run.specs.Answers.{check, cite}
 use Rattle.bib_run.proofs.engine.answer_alone.Goals as goal
 
 pub returns-then-is_named-2 : goal.returns-then-is_named-2

@@ -1,6 +1,5 @@
-use Rattle.std.proofs.Common.{◌≡◌, codes, rules}
-use Rattle.std.proofs.lemmas.Result.{IfOk-weaker}
-use Rattle.bib_run.specs.Answers.{of_reading, show, labels, json, newkeys, ris, names}
+use Rattle.bib_run.proofs.Words.{◌≡◌, codes, rules, IfOk-weaker, of_reading}
+use Rattle.bib_run.specs.Answers.{show, labels, json, newkeys, ris, names}
 use Rattle.bib_run.proofs.engine.answer_at_depth.Goals as goal
 
 pub returns-then-is_named : goal.returns-then-is_named

@@ -1,6 +1,4 @@
-use Rattle.std.proofs.Common.{◌≡◌, ◌≢◌, length, rules}
-use Rattle.std.proofs.lemmas.Result.{IfOk-weaker}
-use Rattle.bib_run.specs.Answers.{edit, edit_words}
+use Rattle.bib_run.proofs.Words.{◌≡◌, ◌≢◌, length, rules, IfOk-weaker, edit, edit_words}
 use Rattle.bib_run.proofs.engine.answer_edits.Goals as goal
 
 pub returns-then-as_slice-eq1 : goal.returns-then-as_slice-eq1

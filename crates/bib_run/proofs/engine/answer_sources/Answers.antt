@@ -1,6 +1,4 @@
-use Rattle.std.proofs.Common.{Option, option_map, subst}
-use Rattle.bib_spec.specs.Text.{Text}
-use Rattle.bib_run.specs.Answers.{IsAnswer}
+use Rattle.bib_run.proofs.Words.{Option, option_map, subst, Text, IsAnswer}
 use Rattle.bib_run.proofs.Endings.{has_answer}
 use Rattle.bib_run.proofs.engine.answer_sources.Goals as goal
 

@@ -1,6 +1,4 @@
-use Rattle.std.proofs.Common.{◌≡◌, codes, rules}
-use Rattle.std.proofs.lemmas.Result.{IfOk-weaker}
-use Rattle.bib_run.specs.Answers.{import, undo, redo, log}
+use Rattle.bib_run.proofs.Words.{◌≡◌, codes, rules, IfOk-weaker, import, undo, redo, log}
 use Rattle.bib_run.proofs.engine.answer_with_journal.Goals as goal
 
 pub returns-then-is_named-2 : goal.returns-then-is_named-2

@@ -1,4 +1,4 @@
-use Rattle.std.proofs.Common.{rules}
+use Rattle.bib_run.proofs.Words.{rules}
 use Rattle.bib_words.specs.Command.{ReadsJournal}
 use Rattle.bib_run.specs.Runs.{none, unread, read}
 use Rattle.bib_run.proofs.engine.read_journal.Goals as goal

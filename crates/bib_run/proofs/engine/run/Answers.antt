@@ -1,4 +1,4 @@
-use Rattle.std.proofs.Common.{Some, ap}
+use Rattle.bib_run.proofs.Words.{Some, ap}
 use Rattle.bib_run.proofs.engine.run.Goals as goal
 
 -- the journal is known where the match took it

@@ -1,4 +1,4 @@
-use Rattle.std.proofs.Common.{refl}
+use Rattle.bib_run.proofs.Words.{refl}
 use Rattle.bib_run.specs.Runs.{no_memory}
 use Rattle.bib_run.proofs.Endings.{held-sound}
 use Rattle.bib_run.proofs.engine.run_command.Goals as goal

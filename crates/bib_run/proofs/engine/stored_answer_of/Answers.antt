@@ -1,4 +1,4 @@
-use Rattle.std.proofs.lemmas.Result.{IfOk-weaker}
+use Rattle.bib_run.proofs.Words.{IfOk-weaker}
 use Rattle.bib_run.proofs.engine.stored_answer_of.Goals as goal
 
 pub returns-then-command-gt0 : goal.returns-then-command-gt0

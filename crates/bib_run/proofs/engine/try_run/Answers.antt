@@ -1,5 +1,5 @@
-use Rattle.std.proofs.Common.{◌∙◌, Err, refl, ap}
-use Rattle.std.proofs.lemmas.Result.{IfOk-weaker}
+use Rattle.bib_run.proofs.Words.{◌∙◌, refl, ap, IfOk-weaker}
+use Rattle.std.proofs.Common.{Err}
 use Rattle.bib_spec.proofs.Results.{err_always}
 use Rattle.bib_run.specs.Runs.{read_fault}
 use Rattle.bib_run.proofs.Endings.{no_tap, input_sound}

@@ -1,6 +1,5 @@
-use Rattle.std.proofs.Common.{◌≡◌, true, false, rules, subst}
+use Rattle.bib_run.proofs.Words.{◌≡◌, true, false, rules, subst, WritesPrefix}
 use Rattle.bib_run.specs.Runs.{answered, write_fault}
-use Rattle.bib_run.specs.Transfers.{WritesPrefix}
 use Rattle.bib_run.proofs.Endings.{Appends-whole}
 use Rattle.bib_run.proofs.engine.write_answer.Goals as goal
 

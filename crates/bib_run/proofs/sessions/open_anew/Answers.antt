@@ -1,6 +1,4 @@
-use Rattle.std.proofs.Common.{◌≡◌, true, rules}
-use Rattle.std.proofs.lemmas.Result.{IfOk-weaker}
-use Rattle.bib_run.specs.Sessions.{is_of_journal}
+use Rattle.bib_run.proofs.Words.{◌≡◌, true, rules, IfOk-weaker, is_of_journal}
 use Rattle.bib_run.proofs.OpenLemmas.{opens_anew}
 use Rattle.bib_run.proofs.sessions.open_anew.Goals as goal
 

@@ -1,7 +1,5 @@
-use Rattle.std.proofs.Common.{◌≡◌, ℕ, List, true, Bor, option_map, rules, sym, subst}
-use Rattle.std.proofs.lemmas.Result.{IfOk-weaker}
-use Rattle.bib_journal.specs.Session.{RefusesOpen}
-use Rattle.bib_run.specs.Sessions.{OpensWith}
+use Rattle.bib_run.proofs.Words.{◌≡◌, ℕ, List, true, option_map, rules, sym, subst, IfOk-weaker, RefusesOpen, OpensWith}
+use Rattle.std.proofs.Common.{Bor}
 use Rattle.bib_run.proofs.sessions.open_with.Goals as goal
 
 pub returns-in-Err-clause-opened : goal.returns-in-Err-clause-opened

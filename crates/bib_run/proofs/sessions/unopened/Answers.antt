@@ -1,9 +1,5 @@
-use Rattle.std.proofs.Common.{[], rules, sym, subst, ap, ◌∙◌}
-use Rattle.std.proofs.lemmas.Result.{IfOk-weaker}
-use Rattle.bib_journal.specs.declared.fault.SessionFault.{SessionFault}
+use Rattle.bib_run.proofs.Words.{[], rules, sym, subst, ap, ◌∙◌, IfOk-weaker, SessionFault, Text, answer_of}
 use Rattle.bib_run.proofs.SessionAnswers.{Tells, tells_file, tells_journal, tells_mismatch}
-use Rattle.bib_spec.specs.Text.{Text}
-use Rattle.bib_answers.specs.Outcome.{answer_of}
 use Rattle.bib_run.proofs.sessions.unopened.Goals as goal
 
 pub returns-in-Unopened : goal.returns-in-Unopened

@@ -1,4 +1,4 @@
-use Rattle.std.proofs.Common.{rules, arith}
+use Rattle.bib_run.proofs.Words.{rules, arith}
 use Rattle.std.proofs.lemmas.Grind.{common_steps}
 use Rattle.bib_run.proofs.Progress.{Appends-more}
 use Rattle.bib_run.proofs.sink.write_whole.Goals as goal

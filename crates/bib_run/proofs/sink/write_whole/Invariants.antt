@@ -1,5 +1,4 @@
-use Rattle.std.proofs.Common.{length, ◌-◌, ◌+◌}
-use Rattle.bib_taps.specs.Taps.{tap_inner, has_failed, interruptions}
+use Rattle.bib_run.proofs.Words.{length, ◌-◌, ◌+◌, tap_inner, has_failed, interruptions}
 use Rattle.bib_run.proofs.Progress.{HasWritten}
 use Rattle.bib_run.proofs.sink.write_whole.Given as goal
 

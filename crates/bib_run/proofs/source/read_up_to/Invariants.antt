@@ -1,5 +1,5 @@
-use Rattle.std.proofs.Common.{◌+◌, ◌-◌, vec_len}
-use Rattle.bib_taps.specs.Taps.{tap_inner, has_failed, interruptions}
+use Rattle.bib_run.proofs.Words.{◌+◌, ◌-◌, tap_inner, has_failed, interruptions}
+use Rattle.std.proofs.Common.{vec_len}
 use Rattle.bib_run.proofs.Progress.{HasRead}
 use Rattle.bib_run.proofs.source.read_up_to.Given as goal
 

@@ -1,7 +1,4 @@
-use Rattle.std.proofs.Common.{◌<◌, ◌≢◌, length, arith, sym, ◌∙◌}
-use Rattle.std.proofs.lemmas.Result.{err_from_is_err_and}
-use Rattle.bib_spec.specs.Bytes.{name_limit}
-use Rattle.bib_scan.specs.DelimiterView.{delimiter_view}
+use Rattle.bib_scan.proofs.Words.{◌<◌, ◌≢◌, length, arith, sym, ◌∙◌, err_from_is_err_and, name_limit, delimiter_view}
 use Rattle.bib_scan.proofs.RowsLemmas.{rows_end, rows_comma_fault, rows_tail, rows_row_fault, rows_more}
 use Rattle.bib_scan.proofs.NoteLemmas.{crossref_seen, crossref_other, crossref_here, crossref_closed, crossref_tail}
 use Rattle.bib_scan.proofs.body.past_rows.Goals as goal

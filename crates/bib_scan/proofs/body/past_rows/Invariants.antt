@@ -1,5 +1,4 @@
-use Rattle.std.proofs.Common.{length}
-use Rattle.bib_spec.specs.Bytes.{name_limit}
+use Rattle.bib_scan.proofs.Words.{length, name_limit}
 use Rattle.bib_scan.proofs.RowsLemmas.{RowsOn}
 use Rattle.bib_scan.proofs.NoteLemmas.{CrossrefOn}
 use Rattle.bib_scan.proofs.body.past_rows.Given as goal

@@ -1,6 +1,4 @@
-use Rattle.std.proofs.Common.{◌-◌, ◌≤◌, length}
-use Rattle.memchr.specs.Find.{Nowhere}
-use Rattle.bib_scan.specs.Braces.{IsBraceAt}
+use Rattle.bib_scan.proofs.Words.{◌-◌, ◌≤◌, length, Nowhere, IsBraceAt}
 use Rattle.bib_scan.proofs.braces.brace_place.Given as goal
 
 abbrev pub invariant-loop-place : goal.invariant-loop-place

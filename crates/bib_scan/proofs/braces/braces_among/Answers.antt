@@ -1,9 +1,6 @@
-use Rattle.std.proofs.Common.{◌≡◌, ◌↔◌, ◌+◌, ◌<◌, true, length, sym, subst, arith}
-use Rattle.std.specs.Int.{bit_at}
+use Rattle.bib_scan.proofs.Words.{◌≡◌, ◌↔◌, ◌+◌, ◌<◌, true, length, sym, subst, arith, bit_at, is_byte2, IsBraceAt}
 use Rattle.std.specs.Simd.Lanes.{chunk}
 use Rattle.std.proofs.lemmas.Simd.{length-chunk, get_or-chunk}
-use Rattle.memchr.specs.Find.{is_byte2}
-use Rattle.bib_scan.specs.Braces.{IsBraceAt}
 use Rattle.bib_scan.proofs.MaskLemmas.{bit_at-lanes, mask-of_two}
 use Rattle.bib_scan.proofs.braces.braces_among.Goals as goal
 

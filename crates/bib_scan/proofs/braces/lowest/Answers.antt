@@ -1,6 +1,6 @@
-use Rattle.std.proofs.Common.{arith, w64, inl, inr}
+use Rattle.bib_scan.proofs.Words.{arith, inl, inr, cases_lt}
+use Rattle.std.proofs.Common.{w64}
 use Rattle.std.specs.Int.{trailing_zeros}
-use Rattle.std.proofs.lemmas.Bool.{cases_lt}
 use Rattle.std.proofs.lemmas.Nat.Bits.{bit_at-trailing_zeros}
 use Rattle.bib_scan.proofs.braces.lowest.Goals as goal
 

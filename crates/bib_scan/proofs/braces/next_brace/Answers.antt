@@ -1,4 +1,4 @@
-use Rattle.std.proofs.Common.{arith}
+use Rattle.bib_scan.proofs.Words.{arith}
 use Rattle.bib_scan.proofs.MarkLemmas.{next_marked}
 use Rattle.bib_scan.proofs.braces.next_brace.Goals as goal
 

@@ -1,5 +1,4 @@
-use Rattle.std.proofs.Common.{◌-◌, length}
-use Rattle.bib_scan.specs.Braces.{IsMarked}
+use Rattle.bib_scan.proofs.Words.{◌-◌, length, IsMarked}
 use Rattle.bib_scan.proofs.braces.next_brace.Given as goal
 
 abbrev pub invariant-loop-now : goal.invariant-loop-now

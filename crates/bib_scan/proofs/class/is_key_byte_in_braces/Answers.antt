@@ -1,8 +1,5 @@
-use Rattle.std.proofs.Common.{refl, arith}
-use Rattle.bib_spec.specs.Text.{is_space}
+use Rattle.bib_scan.proofs.Words.{refl, arith, is_space, goes_on_key, KEYS}
 use Rattle.bib_spec.specs.Tree as tree
-use Rattle.bib_spec.specs.Tree.{goes_on_key}
-use Rattle.bib_scan.specs.declared.class.TheConstants.{KEYS}
 use Rattle.bib_scan.proofs.TableLemmas.{agree_below, from_table}
 use Rattle.bib_scan.proofs.class.is_key_byte_in_braces.Goals as goal
 

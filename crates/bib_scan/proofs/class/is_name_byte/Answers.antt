@@ -1,6 +1,4 @@
-use Rattle.std.proofs.Common.{refl, arith}
-use Rattle.bib_spec.specs.Text.{is_name_byte}
-use Rattle.bib_scan.specs.declared.class.TheConstants.{CLASSES}
+use Rattle.bib_scan.proofs.Words.{refl, arith, is_name_byte, CLASSES}
 use Rattle.bib_scan.proofs.TableLemmas.{agree_below, from_table}
 use Rattle.bib_scan.proofs.class.is_name_byte.Goals as goal
 

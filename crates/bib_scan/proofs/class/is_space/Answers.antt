@@ -1,6 +1,4 @@
-use Rattle.std.proofs.Common.{refl, arith}
-use Rattle.bib_spec.specs.Text.{is_space}
-use Rattle.bib_scan.specs.declared.class.TheConstants.{CLASSES}
+use Rattle.bib_scan.proofs.Words.{refl, arith, is_space, CLASSES}
 use Rattle.bib_scan.proofs.TableLemmas.{agree_below, from_table}
 use Rattle.bib_scan.proofs.class.is_space.Goals as goal
 

@@ -1,5 +1,5 @@
-use Rattle.bib_spec.specs.Bytes.{name_limit}
-use Rattle.bib_spec.specs.Reading.{HasReading, IsValueWithin}
+use Rattle.bib_scan.proofs.Words.{name_limit, IsValueWithin}
+use Rattle.bib_spec.specs.Reading.{HasReading}
 use Rattle.bib_scan.proofs.PlaceLaws.{one_place}
 use Rattle.bib_scan.proofs.PlaceOfFault.{file_or_failing, value_or_failing}
 use Rattle.bib_scan.proofs.laws.one_place.Goals as goal

@@ -1,4 +1,4 @@
-use Rattle.bib_spec.specs.Bytes.{name_limit}
+use Rattle.bib_scan.proofs.Words.{name_limit}
 use Rattle.bib_scan.proofs.OneReading.{one_reading}
 use Rattle.bib_scan.proofs.laws.one_reading.Goals as goal
 

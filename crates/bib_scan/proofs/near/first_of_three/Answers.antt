@@ -1,4 +1,4 @@
-use Rattle.memchr.specs.Find.{is_byte3}
+use Rattle.bib_scan.proofs.Words.{is_byte3}
 use Rattle.bib_scan.proofs.FirstPlaces.{first_of_places}
 use Rattle.bib_scan.proofs.near.first_of_three.Goals as goal
 

@@ -1,5 +1,4 @@
-use Rattle.std.proofs.Common.{◌∙◌, sym}
-use Rattle.std.proofs.lemmas.Bool.{eqb-true, eq-eqb}
+use Rattle.bib_scan.proofs.Words.{◌∙◌, sym, eqb-true, eq-eqb}
 use Rattle.bib_scan.proofs.OpeningLemmas.{clean_len, len_clean}
 use Rattle.bib_scan.proofs.opening.is_clean.Goals as goal
 

@@ -1,4 +1,4 @@
-use Rattle.std.proofs.Common.{◌-◌, length}
+use Rattle.bib_scan.proofs.Words.{◌-◌, length}
 use Rattle.bib_scan.proofs.CommandLemmas.{NoneUpTo}
 use Rattle.bib_scan.proofs.opening.next_command.Given as goal
 

@@ -1,4 +1,4 @@
-use Rattle.std.proofs.Common.{sym, ◌∙◌}
+use Rattle.bib_scan.proofs.Words.{sym, ◌∙◌}
 use Rattle.bib_scan.specs.PartView.{part_view}
 use Rattle.bib_scan.proofs.OnlyPart.{only_one}
 use Rattle.bib_scan.proofs.parts.only_part.Goals as goal

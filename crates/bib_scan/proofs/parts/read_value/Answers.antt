@@ -1,7 +1,4 @@
-use Rattle.std.proofs.Common.{ℕ, ◌-◌, length, sym, ap, subst, arith}
-use Rattle.std.proofs.lemmas.List.{length-append}
-use Rattle.bib_spec.specs.Bytes.{name_limit}
-use Rattle.bib_scan.specs.Code.{halt_of}
+use Rattle.bib_scan.proofs.Words.{ℕ, ◌-◌, length, sym, ap, subst, arith, length-append, name_limit, halt_of}
 use Rattle.bib_scan.specs.ValueParts.{IsValueFault, no_value, no_memory}
 use Rattle.bib_scan.proofs.TakenApart.{value_found}
 use Rattle.bib_scan.proofs.PartsFaults.{refused_whole}

@@ -1,7 +1,4 @@
-use Rattle.std.proofs.Common.{◌≢◌, length, sym, ◌∙◌, arith}
-use Rattle.std.proofs.lemmas.Bool.{eqb-true, eqb-false}
-use Rattle.std.proofs.lemmas.Result.{err_from_is_err_and}
-use Rattle.bib_spec.specs.Bytes.{name_limit}
+use Rattle.bib_scan.proofs.Words.{◌≢◌, length, sym, ◌∙◌, arith, eqb-true, eqb-false, err_from_is_err_and, name_limit}
 use Rattle.bib_scan.proofs.PartsLemmas.{parts_more, parts_end, part_fault, link_fault}
 use Rattle.bib_scan.proofs.parts.spans.Goals as goal
 

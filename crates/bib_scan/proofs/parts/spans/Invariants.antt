@@ -1,5 +1,4 @@
-use Rattle.std.proofs.Common.{length}
-use Rattle.bib_spec.specs.Bytes.{name_limit}
+use Rattle.bib_scan.proofs.Words.{length, name_limit}
 use Rattle.bib_scan.proofs.PartsLemmas.{PartsOn}
 use Rattle.bib_scan.proofs.parts.spans.Given as goal
 

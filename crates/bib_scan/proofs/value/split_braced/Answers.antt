@@ -1,8 +1,4 @@
-use Rattle.std.proofs.Common.{◌≡◌, [], length, drop, arith}
-use Rattle.std.proofs.lemmas.List.{drop_all}
-use Rattle.memchr.specs.Find.{is_byte2}
-use Rattle.bib_spec.specs.Fault.{Unended}
-use Rattle.bib_scan.specs.LeftToRight.{read_braced, stop}
+use Rattle.bib_scan.proofs.Words.{◌≡◌, [], length, drop, arith, drop_all, is_byte2, Unended, read_braced, stop}
 use Rattle.bib_scan.proofs.BraceLemmas.{found_from, not_found_from, braced_takes, braced_nil, braced_opens, braced_closes, braced_done, past, second}
 use Rattle.bib_scan.proofs.value.split_braced.Goals as goal
 use Rattle.bib_scan.proofs.value.split_braced.Goals.{then-text-place-eq123, else-text-place-eq123+else-depth-eq0}

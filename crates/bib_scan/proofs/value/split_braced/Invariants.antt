@@ -1,6 +1,4 @@
-use Rattle.std.proofs.Common.{◌-◌, length}
-use Rattle.bib_scan.specs.Braces.{IsMarked}
-use Rattle.bib_scan.specs.LeftToRight.{read_braced}
+use Rattle.bib_scan.proofs.Words.{◌-◌, length, IsMarked, read_braced}
 use Rattle.bib_scan.proofs.ScanInvariant.{Scanned}
 use Rattle.bib_scan.proofs.value.split_braced.Given as goal
 

@@ -1,8 +1,4 @@
-use Rattle.std.proofs.Common.{◌≡◌, ◌+◌, [], length, drop, arith}
-use Rattle.std.proofs.lemmas.List.{drop_all, drop_more}
-use Rattle.memchr.specs.Find.{is_byte3}
-use Rattle.bib_spec.specs.Fault.{Unended}
-use Rattle.bib_scan.specs.LeftToRight.{read_quoted, stop}
+use Rattle.bib_scan.proofs.Words.{◌≡◌, ◌+◌, [], length, drop, arith, drop_all, drop_more, is_byte3, Unended, read_quoted, stop}
 use Rattle.bib_scan.proofs.BraceLemmas.{found_at, not_found, quoted_takes, quoted_nil, quoted_opens, quoted_closes, quoted_inside, quoted_done, quoted_refused, past, third}
 use Rattle.bib_scan.proofs.value.split_quoted.Goals as goal
 use Rattle.bib_scan.proofs.value.split_quoted.Goals.{in-123, in-125+else-depth-eq0, in_default-text+else-depth-eq0-2}

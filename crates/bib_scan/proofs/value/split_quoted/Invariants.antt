@@ -1,5 +1,4 @@
-use Rattle.std.proofs.Common.{◌-◌, length}
-use Rattle.bib_scan.specs.LeftToRight.{read_quoted}
+use Rattle.bib_scan.proofs.Words.{◌-◌, length, read_quoted}
 use Rattle.bib_scan.proofs.ScanInvariant.{Scanned}
 use Rattle.bib_scan.proofs.value.split_quoted.Given as goal
 

@@ -1,6 +1,4 @@
-use Rattle.std.proofs.Common.{arith}
-use Rattle.std.proofs.lemmas.Result.{err_from_is_err_and}
-use Rattle.bib_spec.specs.Bytes.{name_limit}
+use Rattle.bib_scan.proofs.Words.{arith, err_from_is_err_and, name_limit}
 use Rattle.bib_scan.proofs.ValueLemmas.{leads_on, value_fault, value_end}
 use Rattle.bib_scan.proofs.value.split_value.Goals as goal
 

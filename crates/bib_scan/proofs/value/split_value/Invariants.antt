@@ -1,5 +1,4 @@
-use Rattle.std.proofs.Common.{length}
-use Rattle.bib_spec.specs.Bytes.{name_limit}
+use Rattle.bib_scan.proofs.Words.{length, name_limit}
 use Rattle.bib_scan.proofs.ScanInvariant.{LeadsOn}
 use Rattle.bib_scan.proofs.value.split_value.Given as goal
 

@@ -1,6 +1,4 @@
-use Rattle.std.proofs.Common.{rules, ◌≡◌, ◌++◌, true, List, sym, subst, ◌∙◌, ap, ap₂, arith, take-append-drop}
-use Rattle.bib_spec.specs.Pieces.{Piece}
-use Rattle.history_spec.specs.Composing.{IsComposable, composed}
+use Rattle.bib_steps.proofs.Words.{rules, ◌≡◌, ◌++◌, true, List, sym, subst, ◌∙◌, ap, ap₂, arith, take-append-drop, Piece, IsComposable, composed}
 use Rattle.bib_steps.proofs.Positions.{as_many_ends, front_ends_before, first_part, later_part, part_short, part_in_turn}
 use Rattle.bib_steps.proofs.amending.amend.Goals as goal
 

@@ -1,5 +1,4 @@
-use Rattle.std.proofs.Common.{◌-◌, ◌≤◌, length, take, drop, ◌∙◌, ap, arith}
-use Rattle.history_spec.specs.Composing.{old_end, new_end}
+use Rattle.bib_steps.proofs.Words.{◌-◌, ◌≤◌, length, take, drop, ◌∙◌, ap, arith, old_end, new_end}
 use Rattle.bib_steps.proofs.Positions.{as_many_ends, end_at_new, near_composable, near_value, composable_as, composed_as}
 use Rattle.bib_steps.proofs.amending.replacement.Goals as goal
 

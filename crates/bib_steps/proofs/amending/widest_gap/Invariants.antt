@@ -1,4 +1,4 @@
-use Rattle.std.proofs.Common.{◌≤◌, length}
+use Rattle.bib_steps.proofs.Words.{◌≤◌, length}
 use Rattle.bib_steps.proofs.amending.widest_gap.Given as goal
 
 abbrev pub invariant-loop-i : goal.invariant-loop-i

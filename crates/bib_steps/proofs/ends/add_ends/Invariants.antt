@@ -1,5 +1,5 @@
-use Rattle.std.proofs.Common.{◌≡◌, ◌≤◌, ◌+◌, ◌++◌, vec_len, vec_capacity}
-use Rattle.bib_steps.specs.Amending.{ends_from}
+use Rattle.bib_steps.proofs.Words.{◌≡◌, ◌≤◌, ◌+◌, ◌++◌, ends_from}
+use Rattle.std.proofs.Common.{vec_len, vec_capacity}
 use Rattle.bib_steps.proofs.Renewed.{IsRenewed}
 use Rattle.bib_steps.proofs.ends.add_ends.Given as goal
 

@@ -1,7 +1,4 @@
-use Rattle.std.proofs.Common.{rules, ◌<◌, ◌≤◌, ◌++◌, length, take, drop, ◌∙◌, ap, arith}
-use Rattle.std.proofs.lemmas.Grind.{get_or_default_zero}
-use Rattle.history_spec.specs.Composing.{old_end}
-use Rattle.bib_steps.specs.Amending.{end_at}
+use Rattle.bib_steps.proofs.Words.{rules, ◌<◌, ◌≤◌, ◌++◌, length, take, drop, ◌∙◌, ap, arith, get_or_default_zero, old_end, end_at}
 use Rattle.bib_steps.proofs.MovedEnds.{mid_is, MoveThere, next_short, move_there, moved_so}
 use Rattle.bib_steps.proofs.ends.move_ends.Goals as goal
 

@@ -1,7 +1,5 @@
-use Rattle.std.proofs.Common.{get_or, sym, arith}
+use Rattle.bib_steps.proofs.Words.{get_or, sym, arith, get_or_default_zero, moved}
 use Rattle.std.proofs.lemmas.List.Edits.{map_over_more}
-use Rattle.std.proofs.lemmas.Grind.{get_or_default_zero}
-use Rattle.bib_steps.specs.Amending.{moved}
 use Rattle.bib_steps.proofs.ends.move_places.Goals as goal
 
 pub all-preserved : goal.all-preserved

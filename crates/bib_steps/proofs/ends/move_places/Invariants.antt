@@ -1,5 +1,4 @@
-use Rattle.std.proofs.Common.{◌≡◌, ◌++◌, map, take, drop}
-use Rattle.bib_steps.specs.Amending.{moved}
+use Rattle.bib_steps.proofs.Words.{◌≡◌, ◌++◌, map, take, drop, moved}
 use Rattle.bib_steps.proofs.ends.move_places.Given as goal
 
 abbrev pub invariant-all : goal.invariant-all

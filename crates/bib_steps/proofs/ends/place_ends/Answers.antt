@@ -1,7 +1,4 @@
-use Rattle.std.proofs.Common.{ℕ, List, take, ◌∙◌, ap, arith}
-use Rattle.history_spec.specs.Composing.{old_end}
-use Rattle.history_spec.proofs.Near.{length-ends}
-use Rattle.bib_steps.specs.Amending.{end_at, ends_from}
+use Rattle.bib_steps.proofs.Words.{ℕ, List, take, ◌∙◌, ap, arith, old_end, length-ends, end_at, ends_from}
 use Rattle.bib_steps.proofs.MovedEnds.{mid_is, between_is, short_between, are_put}
 use Rattle.bib_steps.proofs.ends.place_ends.Goals as goal
 

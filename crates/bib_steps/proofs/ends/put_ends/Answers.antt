@@ -1,5 +1,4 @@
-use Rattle.std.proofs.Common.{◌+◌, ◌++◌, take, ◌∙◌, ap}
-use Rattle.history_spec.specs.Composing.{ends_of}
+use Rattle.bib_steps.proofs.Words.{◌+◌, ◌++◌, take, ◌∙◌, ap, ends_of}
 use Rattle.bib_steps.proofs.MovedEnds.{put_further}
 use Rattle.bib_steps.proofs.ends.put_ends.Goals as goal
 

@@ -1,6 +1,4 @@
-use Rattle.std.proofs.Common.{◌<◌, length, ◌∙◌, ap, arith}
-use Rattle.history_spec.specs.Composing.{old_end}
-use Rattle.bib_steps.specs.Amending.{end_at}
+use Rattle.bib_steps.proofs.Words.{◌<◌, length, ◌∙◌, ap, arith, old_end, end_at}
 use Rattle.bib_steps.proofs.MovedEnds.{mid_is, next_short, end_put}
 use Rattle.bib_steps.proofs.ends.renew_end.Goals as goal
 

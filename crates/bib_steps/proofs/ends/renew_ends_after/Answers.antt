@@ -1,5 +1,4 @@
-use Rattle.std.proofs.Common.{◌≡◌, ◌+◌, ◌-◌, List, ℕ, length, take, drop, refl, sym, subst, arith}
-use Rattle.bib_steps.specs.Amending.{AreSomeEnds}
+use Rattle.bib_steps.proofs.Words.{◌≡◌, ◌+◌, ◌-◌, List, ℕ, length, take, drop, refl, sym, subst, arith, AreSomeEnds}
 use Rattle.bib_steps.proofs.MovedEnds.{all_ends}
 use Rattle.bib_steps.proofs.Edited.{changed_last}
 use Rattle.bib_steps.proofs.ends.renew_ends_after.Goals as goal

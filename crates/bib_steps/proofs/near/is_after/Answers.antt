@@ -1,6 +1,5 @@
-use Rattle.std.proofs.Common.{rules, ◌≡◌, ◌+◌, ◌<◌, get_or, length, ◌∙◌, ap, arith}
+use Rattle.bib_steps.proofs.Words.{rules, ◌≡◌, ◌+◌, ◌<◌, get_or, length, ◌∙◌, ap, arith, Piece}
 use Rattle.std.proofs.lemmas.Bool.{ltb-true}
-use Rattle.bib_spec.specs.Pieces.{Piece}
 use Rattle.bib_steps.proofs.Positions.{as_many_ends, after_at}
 use Rattle.bib_steps.proofs.near.is_after.Goals as goal
 

@@ -1,5 +1,4 @@
-use Rattle.std.proofs.Common.{rules, ◌≡◌, ◌≤◌, ℕ, true, length, subst, arith}
-use Rattle.bib_steps.specs.Amending.{BeginAfter, end_at}
+use Rattle.bib_steps.proofs.Words.{rules, ◌≡◌, ◌≤◌, ℕ, true, length, subst, arith, BeginAfter, end_at}
 use Rattle.bib_steps.proofs.Positions.{as_many_ends, front_ends_before, part_end_short}
 use Rattle.bib_steps.proofs.near.near.Goals as goal
 

@@ -1,4 +1,4 @@
-use Rattle.std.proofs.Common.{◌≤◌, ◌-◌, length}
+use Rattle.bib_steps.proofs.Words.{◌≤◌, ◌-◌, length}
 use Rattle.bib_steps.proofs.near.near.Given as goal
 
 abbrev pub invariant-on : goal.invariant-on

@@ -1,8 +1,4 @@
-use Rattle.std.proofs.Common.{rules, ◌≡◌, ◌≤◌, ◌+◌, ◌-◌, List, ◌++◌, length, take, drop, subst, sym, ◌∙◌, ap, ap₂, arith, refl}
-use Rattle.std.proofs.lemmas.List.{drop_at, length-take-le}
-use Rattle.bib_spec.specs.Pieces.{Piece}
-use Rattle.history_spec.specs.Composing.{ends_of, Replacement}
-use Rattle.history_spec.proofs.Near.{length-ends}
+use Rattle.bib_steps.proofs.Words.{rules, ◌≡◌, ◌≤◌, ◌+◌, ◌-◌, List, ◌++◌, length, take, drop, subst, sym, ◌∙◌, ap, ap₂, arith, refl, drop_at, length-take-le, Piece, ends_of, Replacement, length-ends}
 use Rattle.bib_steps.proofs.Positions.{front_kept, length_kept, same_front_ends}
 use Rattle.bib_steps.proofs.MovedEnds.{replaced_last, all_ends}
 use Rattle.bib_steps.proofs.placing.put.Goals as goal

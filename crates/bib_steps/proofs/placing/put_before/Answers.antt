@@ -1,5 +1,4 @@
-use Rattle.std.proofs.Common.{rules, ◌≡◌, List, length, ◌∙◌, refl}
-use Rattle.bib_spec.specs.Pieces.{Piece}
+use Rattle.bib_steps.proofs.Words.{rules, ◌≡◌, List, length, ◌∙◌, refl, Piece}
 use Rattle.bib_steps.proofs.MovedEnds.{replaced_before}
 use Rattle.bib_steps.proofs.placing.put_before.Goals as goal
 

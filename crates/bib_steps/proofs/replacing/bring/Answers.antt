@@ -1,4 +1,4 @@
-use Rattle.std.proofs.Common.{rules, ◌≡◌, ◌+◌, ◌-◌, ◌≤◌, length, sym, ◌∙◌, ap, length-append}
+use Rattle.bib_steps.proofs.Words.{rules, ◌≡◌, ◌+◌, ◌-◌, ◌≤◌, length, sym, ◌∙◌, ap, length-append}
 use Rattle.bib_steps.proofs.Turned.{turned, replaced_by_turning}
 use Rattle.bib_steps.proofs.replacing.bring.Goals as goal
 

@@ -1,5 +1,4 @@
-use Rattle.std.proofs.Common.{◌<◌, ◌≤◌, ◌-◌, length}
-use Rattle.bib_steps.specs.Amending.{end_at}
+use Rattle.bib_steps.proofs.Words.{◌<◌, ◌≤◌, ◌-◌, length, end_at}
 use Rattle.bib_steps.proofs.spans.count_before.Given as goal
 
 abbrev pub invariant-halves : goal.invariant-halves

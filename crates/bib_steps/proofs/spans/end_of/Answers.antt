@@ -1,6 +1,4 @@
-use Rattle.std.proofs.Common.{◌≡◌, ◌+◌, ◌-◌, length, Some, sym, ◌∙◌, ap, ap₂}
-use Rattle.std.specs.List.{slice_get}
-use Rattle.bib_spec.specs.Pieces.{Piece}
+use Rattle.bib_steps.proofs.Words.{◌≡◌, ◌+◌, ◌-◌, length, Some, sym, ◌∙◌, ap, ap₂, slice_get, Piece}
 use Rattle.bib_steps.proofs.Positions.{old_end_got}
 use Rattle.bib_steps.proofs.spans.end_of.Goals as goal
 

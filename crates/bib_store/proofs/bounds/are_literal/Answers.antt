@@ -1,6 +1,5 @@
-use Rattle.std.proofs.Common.{◌≡◌, ◌∙◌, sym, arith}
+use Rattle.bib_store.proofs.Words.{◌≡◌, ◌∙◌, sym, arith, part_view}
 use Rattle.bib_spec.specs.Texts.{parts_of}
-use Rattle.bib_scan.specs.PartView.{part_view}
 use Rattle.bib_value.proofs.RawLemmas.{parts_counted}
 use Rattle.bib_store.proofs.SettledCrossrefs.{literals_more, literals_all}
 use Rattle.bib_store.proofs.bounds.are_literal.Goals as goal

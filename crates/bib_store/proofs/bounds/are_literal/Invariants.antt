@@ -1,7 +1,5 @@
-use Rattle.std.proofs.Common.{take}
+use Rattle.bib_store.proofs.Words.{take, OfValue, AreLiteral}
 use Rattle.bib_spec.specs.Texts.{parts_of}
-use Rattle.bib_value.specs.Raw.{OfValue}
-use Rattle.bib_store.specs.Bounds.{AreLiteral}
 use Rattle.bib_store.proofs.bounds.are_literal.Given as goal
 
 abbrev pub invariant-parts : goal.invariant-parts

@@ -1,5 +1,4 @@
-use Rattle.std.proofs.Common.{length}
-use Rattle.bib_spec.specs.Texts.{Macros}
+use Rattle.bib_store.proofs.Words.{length, Macros}
 use Rattle.bib_store.proofs.FirstCrossrefs.{AreAhead}
 use Rattle.bib_store.proofs.bounds.are_settled.Given as goal
 

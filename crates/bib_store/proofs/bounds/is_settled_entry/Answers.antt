@@ -1,8 +1,5 @@
-use Rattle.std.proofs.Common.{◌≡◌, ◌∙◌, ◌∷◌, [], List, Option, ap, subst}
-use Rattle.bib_spec.specs.Text.{Text}
-use Rattle.bib_spec.specs.Texts.{Macros}
+use Rattle.bib_store.proofs.Words.{◌≡◌, ◌∙◌, ◌∷◌, [], List, Option, ap, subst, Text, Macros, crossref_in, OfRows}
 use Rattle.bib_scan.specs.View.{Field}
-use Rattle.bib_store.specs.ItemTexts.{crossref_in, OfRows}
 use Rattle.bib_store.proofs.SettledCrossrefs.{settled_none, settled_fields}
 use Rattle.bib_store.proofs.bounds.is_settled_entry.Goals as goal
 

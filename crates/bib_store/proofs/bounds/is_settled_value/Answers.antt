@@ -1,5 +1,4 @@
-use Rattle.std.proofs.Common.{◌∙◌, sym}
-use Rattle.bib_scan.specs.PartView.{part_view}
+use Rattle.bib_store.proofs.Words.{◌∙◌, sym, part_view}
 use Rattle.bib_store.proofs.SettledCrossrefs.{literal_value, literal_values}
 use Rattle.bib_store.proofs.bounds.is_settled_value.Goals as goal
 

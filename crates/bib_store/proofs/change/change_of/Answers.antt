@@ -1,9 +1,4 @@
-use Rattle.std.proofs.Common.{◌≡◌, ℕ, ◌≤◌, true, false, [], length, refl, sym, subst, ◌∙◌, ap, arith}
-use Rattle.bib_spec.specs.Bytes.{file_limit}
-use Rattle.bib_spec.specs.Text.{Text}
-use Rattle.bib_spec.specs.Reading.{Reading, Reads, HasReading}
-use Rattle.bib_scan.specs.Layout.{IsLayoutOf}
-use Rattle.bib_store.specs.Windows.{bytes_after}
+use Rattle.bib_store.proofs.Words.{◌≡◌, ℕ, ◌≤◌, true, false, [], length, refl, sym, subst, ◌∙◌, ap, arith, file_limit, Text, Reading, Reads, HasReading, IsLayoutOf, bytes_after}
 use Rattle.bib_store.proofs.WindowChanges.{not_served, lent_made, too_long_made, unread_made, len-around}
 use Rattle.bib_store.proofs.change.change_of.Goals as goal
 

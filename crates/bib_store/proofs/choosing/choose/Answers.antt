@@ -1,9 +1,4 @@
-use Rattle.std.proofs.Common.{rules, ◌≡◌, ◌∙◌, ℕ, true, false, List, [], ◌∷◌, ◌++◌, map, Bor, sym, ap}
-use Rattle.bib_spec.specs.Text.{Text, folded}
-use Rattle.bib_spec.specs.Texts.{raw_text}
-use Rattle.bib_spec.specs.Records.{RecordField, record_field}
-use Rattle.bib_definitions.specs.MacrosSeen.{macros_seen}
-use Rattle.bib_store.specs.Gathering.{is_taken}
+use Rattle.bib_store.proofs.Words.{rules, ◌≡◌, ◌∙◌, ℕ, true, false, List, [], ◌∷◌, ◌++◌, map, Bor, sym, ap, Text, folded, raw_text, RecordField, record_field, macros_seen, is_taken}
 use Rattle.bib_store.proofs.ChosenFields.{other_field, taken_field, free_field}
 use Rattle.bib_store.proofs.choosing.choose.Goals as goal
 

@@ -1,5 +1,4 @@
-use Rattle.std.proofs.Common.{ℕ, List, map, Bor}
-use Rattle.bib_definitions.specs.MacrosSeen.{macros_seen}
+use Rattle.bib_store.proofs.Words.{ℕ, List, map, Bor, macros_seen}
 use Rattle.bib_store.proofs.ChosenFields.{IsChoosing}
 use Rattle.bib_store.proofs.choosing.choose_all.Given as goal
 

@@ -1,8 +1,4 @@
-use Rattle.std.proofs.Common.{rules, tests}
-use Rattle.std.proofs.lemmas.Iterator.{YieldsList-from_slice}
-use Rattle.std.proofs.lemmas.Iterator.Search.{any_from_yields_List}
-use Rattle.bib_spec.specs.Text.{same}
-use Rattle.bib_spec.specs.Records.{RecordField}
+use Rattle.bib_store.proofs.Words.{rules, tests, YieldsList-from_slice, any_from_yields_List, same, RecordField}
 use Rattle.bib_store.proofs.choosing.has_name.Goals as goal
 
 pub returns : goal.returns

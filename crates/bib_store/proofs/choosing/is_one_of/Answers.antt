@@ -1,7 +1,4 @@
-use Rattle.std.proofs.Common.{rules, tests, ◌∙◌, ℕ, List, Bor}
-use Rattle.std.proofs.lemmas.Iterator.{YieldsList-from_slice}
-use Rattle.std.proofs.lemmas.Iterator.Search.{any_from_yields_List}
-use Rattle.bib_spec.specs.Text.{same}
+use Rattle.bib_store.proofs.Words.{rules, tests, ◌∙◌, ℕ, List, Bor, YieldsList-from_slice, any_from_yields_List, same}
 use Rattle.bib_store.proofs.ChosenFields.{any_mapped}
 use Rattle.bib_store.proofs.choosing.is_one_of.Goals as goal
 

@@ -1,4 +1,4 @@
-use Rattle.std.proofs.Common.{List, ℕ, ◌∷◌, [], ◌++◌, sym, ◌∙◌, ap}
+use Rattle.bib_store.proofs.Words.{List, ℕ, ◌∷◌, [], ◌++◌, sym, ◌∙◌, ap}
 use Rattle.bib_store.proofs.Citations.{range_more}
 use Rattle.bib_store.proofs.citing.all_numbers.Goals as goal
 

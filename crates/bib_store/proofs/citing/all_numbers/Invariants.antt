@@ -1,5 +1,4 @@
-use Rattle.std.proofs.Common.{◌≡◌}
-use Rattle.std.specs.List.{range_with_len}
+use Rattle.bib_store.proofs.Words.{◌≡◌, range_with_len}
 use Rattle.bib_store.proofs.citing.all_numbers.Given as goal
 
 abbrev pub invariant-loop-n : goal.invariant-loop-n

@@ -1,5 +1,4 @@
-use Rattle.std.proofs.Common.{ℕ, ◌≡◌, ◌<◌, List, get_or, length, sym, subst, arith}
-use Rattle.std.proofs.lemmas.List.{get_or_default}
+use Rattle.bib_store.proofs.Words.{ℕ, ◌≡◌, ◌<◌, List, get_or, length, sym, subst, arith, get_or_default}
 use Rattle.bib_store.proofs.Citations.{IsListing, listing_none, listing_new, listing_old}
 use Rattle.bib_store.proofs.citing.once.Goals as goal
 use Rattle.bib_store.proofs.citing.once.Goals.{then-not-marks-n+in_ok-push, else-not-marks-n}

@@ -1,6 +1,5 @@
-use Rattle.std.proofs.Common.{ℕ, ◌≡◌, List, Bool, true, false, not, nat_le, get_or, ap, arith}
+use Rattle.bib_store.proofs.Words.{ℕ, ◌≡◌, List, Bool, true, false, not, nat_le, get_or, ap, arith, is_added}
 use Rattle.std.proofs.lemmas.Bool.{and_from, and_left, and_right, le-leb, lt-leb}
-use Rattle.bib_store.specs.Citing.{is_added}
 use Rattle.bib_store.proofs.Citations.{added_more, added_same}
 use Rattle.bib_store.proofs.citing.with_added.Goals as goal
 use Rattle.bib_store.proofs.citing.with_added.Goals.{then-not-marks-n+then-counts-n+in_ok-push, else-not-marks-n, else-not-marks-n-via-then-not-marks-n+else-counts-n, else-not-marks-n-via-else-not-marks-n}

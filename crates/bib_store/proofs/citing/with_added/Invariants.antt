@@ -1,6 +1,4 @@
-use Rattle.std.proofs.Common.{◌≡◌, ◌++◌, filter}
-use Rattle.std.specs.List.{range_with_len}
-use Rattle.bib_store.specs.Citing.{is_added}
+use Rattle.bib_store.proofs.Words.{◌≡◌, ◌++◌, filter, range_with_len, is_added}
 use Rattle.bib_store.proofs.citing.with_added.Given as goal
 
 abbrev pub invariant-loop-n : goal.invariant-loop-n

@@ -1,7 +1,4 @@
-use Rattle.std.proofs.Common.{◌≡◌, List, sym, subst, ◌∙◌, ap}
-use Rattle.std.proofs.lemmas.Result.{IfOk-weaker}
-use Rattle.bib_spec.specs.Text.{Text}
-use Rattle.bib_spec.specs.Pieces.{Piece, Fit, applied}
+use Rattle.bib_store.proofs.Words.{◌≡◌, List, sym, subst, ◌∙◌, ap, IfOk-weaker, Text, Piece, Fit, applied}
 use Rattle.history_spec.specs.Composing.{composed}
 use Rattle.history_spec.proofs.Near.{composable_at_start}
 use Rattle.history_spec.proofs.Glued.{composed-fit, composed-lead}

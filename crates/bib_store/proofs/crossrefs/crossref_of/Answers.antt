@@ -1,7 +1,5 @@
-use Rattle.std.proofs.Common.{◌∙◌, sym, ap, Some}
-use Rattle.std.proofs.lemmas.Result.{err_from_is_err_and}
+use Rattle.bib_store.proofs.Words.{◌∙◌, sym, ap, Some, err_from_is_err_and, field_seen}
 use Rattle.bib_store.proofs.RowTexts.{rows_start, rows_more, rows_over, rows_all}
-use Rattle.bib_scan.specs.View.{field_seen}
 use Rattle.bib_store.proofs.crossrefs.crossref_of.Goals as goal
 
 pub rows-init : goal.rows-init

@@ -1,4 +1,4 @@
-use Rattle.std.proofs.Common.{length}
+use Rattle.bib_store.proofs.Words.{length}
 use Rattle.bib_store.proofs.RowTexts.{RowsTo}
 use Rattle.bib_store.proofs.crossrefs.crossref_of.Given as goal
 

@@ -1,7 +1,4 @@
-use Rattle.std.proofs.Common.{◌*◌, ◌≤◌, length, max, subst, arith}
-use Rattle.bib_spec.specs.Text.{Text}
-use Rattle.bib_spec.specs.Texts.{raw_limit}
-use Rattle.bib_spec.proofs.Results.{ok_always}
+use Rattle.bib_store.proofs.Words.{◌*◌, ◌≤◌, length, max, subst, arith, Text, raw_limit, ok_always}
 use Rattle.bib_store.proofs.ShortEntries.{entry_is_short}
 use Rattle.bib_store.proofs.crossrefs.crossref_within.Goals as goal
 

@@ -1,7 +1,5 @@
-use Rattle.std.proofs.Common.{◌∙◌, Some, None, sym, ap}
-use Rattle.bib_spec.specs.Texts.{field_text}
+use Rattle.bib_store.proofs.Words.{◌∙◌, Some, None, sym, ap, field_text, field_seen}
 use Rattle.bib_store.proofs.FirstCrossrefs.{ahead_start, ahead_more, ahead_found, ahead_none}
-use Rattle.bib_scan.specs.View.{field_seen}
 use Rattle.bib_store.proofs.crossrefs.first_crossref.Goals as goal
 
 pub rows-init : goal.rows-init

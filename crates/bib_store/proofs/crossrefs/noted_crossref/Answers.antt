@@ -1,6 +1,4 @@
-use Rattle.std.proofs.Common.{Some, None, sym, ap, ◌∙◌}
-use Rattle.bib_spec.specs.Texts.{field_text}
-use Rattle.bib_scan.specs.View.{View, field_seen}
+use Rattle.bib_store.proofs.Words.{Some, None, sym, ap, ◌∙◌, field_text, View, field_seen}
 use Rattle.bib_store.proofs.SaidTexts.{entry_says}
 use Rattle.bib_store.proofs.FirstCrossrefs.{entry_finds, entry_finds_none}
 use Rattle.bib_store.proofs.SettledCrossrefs.{settled_none, settled_fields}

@@ -1,7 +1,4 @@
-use Rattle.std.proofs.Common.{subst}
-use Rattle.bib_spec.specs.Text.{Text}
-use Rattle.bib_spec.specs.Records.{crossref}
-use Rattle.bib_items.specs.Glancing.{LacksWord}
+use Rattle.bib_store.proofs.Words.{subst, Text, crossref, LacksWord}
 use Rattle.bib_store.proofs.FirstCrossrefs.{entry_lacks}
 use Rattle.bib_store.proofs.SettledCrossrefs.{settled_none}
 use Rattle.bib_store.proofs.crossrefs.short_crossref.Goals as goal

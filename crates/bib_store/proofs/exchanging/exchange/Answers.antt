@@ -1,9 +1,6 @@
-use Rattle.std.proofs.Common.{◌≡◌, None, OnOk, IfErr, refl, subst}
-use Rattle.bib_spec.specs.Texts.{too_long_at}
+use Rattle.bib_store.proofs.Words.{◌≡◌, None, refl, subst, too_long_at, Tables, AreTables, OfJoined}
+use Rattle.std.proofs.Common.{OnOk, IfErr}
 use Rattle.bib_items.specs.declared.fault.StoreFault.TheVariants.{BadSplice}
-use Rattle.bib_store.specs.declared.tables.Tables.{Tables}
-use Rattle.bib_store.specs.Beside.{AreTables}
-use Rattle.bib_store.specs.Windows.{OfJoined}
 use Rattle.bib_store.proofs.PlacedFiles.{placed_file}
 use Rattle.bib_store.proofs.exchanging.exchange.Goals as goal
 

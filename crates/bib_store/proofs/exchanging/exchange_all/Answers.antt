@@ -1,5 +1,4 @@
-use Rattle.std.proofs.Common.{◌∙◌, ap}
-use Rattle.bib_items.specs.Items.{without_range}
+use Rattle.bib_store.proofs.Words.{◌∙◌, ap, without_range}
 use Rattle.bib_store.proofs.Exchanges.{put_of, are_put, without-old, taken-new}
 use Rattle.bib_store.proofs.exchanging.exchange_all.Goals as goal
 

@@ -1,4 +1,4 @@
-use Rattle.std.proofs.Common.{◌∙◌}
+use Rattle.bib_store.proofs.Words.{◌∙◌}
 use Rattle.bib_store.proofs.Exchanges.{put_of, without-old}
 use Rattle.bib_store.proofs.exchanging.exchange_items.Goals as goal
 

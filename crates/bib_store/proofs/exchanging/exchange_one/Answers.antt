@@ -1,7 +1,4 @@
-use Rattle.std.proofs.Common.{sym, subst}
-use Rattle.bib_spec.specs.Text.{Text}
-use Rattle.bib_spec.specs.Reading.{Reads}
-use Rattle.bib_spec.proofs.Results.{ok_from}
+use Rattle.bib_store.proofs.Words.{sym, subst, Text, Reads, ok_from}
 use Rattle.bib_store.proofs.PlacedFiles.{one_exchanged}
 use Rattle.bib_store.proofs.exchanging.exchange_one.Goals as goal
 

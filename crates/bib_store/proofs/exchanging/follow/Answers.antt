@@ -1,5 +1,4 @@
-use Rattle.std.proofs.Common.{◌<◌, ◌^◌, length, arith}
-use Rattle.bib_store.specs.Windows.{joined}
+use Rattle.bib_store.proofs.Words.{◌<◌, ◌^◌, length, arith, joined}
 use Rattle.bib_store.proofs.FollowedFiles.{followed_tables, followed_fits, followed_refused, followed_back}
 use Rattle.bib_store.proofs.WalkedFiles.{with_len}
 use Rattle.bib_store.proofs.exchanging.follow.Goals as goal
@@ -8,28 +7,28 @@ pub returns-in-Ok-clause-tables : goal.returns-in-Ok-clause-tables
 returns-in-Ok-clause-tables g c = λ old front_len put front db inner k reads has.
     let now = g.L.ItemList.items c.args.items.now in
     let few : length now < 2 ^ 64 = omega (arith, c.count.ensures, c.count.type_inv) in
-    let tables = followed_tables c.args.change.now old now c.args.count c.args.lead put front db inner c.args.tables.now k reads few c.requires.lead c.requires.come c.requires.gone c.learn.new.tables c.forget.new.tables
-    c.learn.ensures.firm c.in-Ok.ensures.tables c.forget.ensures.tables in (
-      with_len (joined c.args.change.now.window db inner).items c.forget.new.tables c.args.change.now.file_len tables,
+    let tables = followed_tables c.args.change.now old now c.args.count c.args.lead put front db inner c.args.tables.now k reads few c.requires.lead c.requires.come c.requires.gone c.add_to_tables.new.tables c.remove_from_tables.new.tables
+    c.add_to_tables.ensures.firm c.in-Ok.ensures.tables c.remove_from_tables.ensures.tables in (
+      with_len (joined c.args.change.now.window db inner).items c.remove_from_tables.new.tables c.args.change.now.file_len tables,
       followed_fits c.args.change.now old now c.args.count c.args.lead put front db inner c.args.tables.now k reads few c.requires.lead c.requires.come c.requires.gone
-          c.forget.new.tables (λ firm. c.forget.ensures.firm (c.learn.ensures.firm firm)) has.items tables c.in-Ok.ensures.short,
+          c.remove_from_tables.new.tables (λ firm. c.remove_from_tables.ensures.firm (c.add_to_tables.ensures.firm firm)) has.items tables c.in-Ok.ensures.short,
     )
 
 pub returns-in-Err-clause-refused : goal.returns-in-Err-clause-refused
 returns-in-Err-clause-refused g c = λ bad loose old front_len put front db inner k reads has.
     let now = g.L.ItemList.items c.args.items.now in
     let few : length now < 2 ^ 64 = omega (arith, c.count.ensures, c.count.type_inv) in
-    followed_refused c.args.change.now old now c.args.count c.args.lead put front db inner c.args.tables.now k reads few c.requires.lead c.requires.come c.requires.gone (λ firm. loose (c.learn.ensures.firm firm)) (c.in-Err.ensures.refused bad loose)
+    followed_refused c.args.change.now old now c.args.count c.args.lead put front db inner c.args.tables.now k reads few c.requires.lead c.requires.come c.requires.gone (λ firm. loose (c.add_to_tables.ensures.firm firm)) (c.in-Err.ensures.refused bad loose)
 
 pub returns-in-Err-clause-err : goal.returns-in-Err-clause-err
 returns-in-Err-clause-err g c = λ old inner reads put.
     let now = g.L.ItemList.items c.args.items.now in
     let few : length now < 2 ^ 64 = omega (arith, c.count.ensures, c.count.type_inv) in
     record {
-      len = c.learn.ensures.len;
+      len = c.add_to_tables.ensures.len;
       tables = λ db front k.
-          followed_back c.args.change.now old now c.args.count c.args.lead put front db inner c.args.tables.now k reads few c.requires.lead c.requires.come c.requires.gone c.learn.new.tables c.in-Err.ensures.err;
+          followed_back c.args.change.now old now c.args.count c.args.lead put front db inner c.args.tables.now k reads few c.requires.lead c.requires.come c.requires.gone c.add_to_tables.new.tables c.in-Err.ensures.err;
     }
 
 pub returns-in-Ok-clause-firm : goal.returns-in-Ok-clause-firm
-returns-in-Ok-clause-firm g c firm = c.forget.ensures.firm (c.learn.ensures.firm firm)
+returns-in-Ok-clause-firm g c firm = c.remove_from_tables.ensures.firm (c.add_to_tables.ensures.firm firm)

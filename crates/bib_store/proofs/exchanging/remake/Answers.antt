@@ -1,7 +1,5 @@
-use Rattle.std.proofs.Common.{List, sym, subst}
+use Rattle.bib_store.proofs.Words.{List, sym, subst, HasItems, ArePut, joined}
 use Rattle.bib_items.specs.declared.list.Item.{Item}
-use Rattle.bib_store.specs.Beside.{HasItems}
-use Rattle.bib_store.specs.Windows.{ArePut, joined}
 use Rattle.bib_store.proofs.Exchanges.{put_without, too_long_refused}
 use Rattle.bib_store.proofs.exchanging.remake.Goals as goal
 

@@ -1,4 +1,4 @@
-use Rattle.std.proofs.lemmas.Result.{err_from_is_err_and}
+use Rattle.bib_store.proofs.Words.{err_from_is_err_and}
 use Rattle.bib_store.proofs.exchanging.renew.Goals as goal
 
 pub returns-in-Ok-clause-tables : goal.returns-in-Ok-clause-tables

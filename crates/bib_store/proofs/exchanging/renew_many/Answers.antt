@@ -1,7 +1,5 @@
-use Rattle.std.proofs.Common.{List, refl, sym, subst}
-use Rattle.std.proofs.lemmas.Result.{err_from_is_err_and}
+use Rattle.bib_store.proofs.Words.{List, refl, sym, subst, err_from_is_err_and, ArePut}
 use Rattle.bib_items.specs.declared.list.Item.{Item}
-use Rattle.bib_store.specs.Windows.{ArePut}
 use Rattle.bib_store.proofs.exchanging.renew_many.Goals as goal
 
 pub returns-then-put_behind_first-clause-tables : goal.returns-then-put_behind_first-clause-tables

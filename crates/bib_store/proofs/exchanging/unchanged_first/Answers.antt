@@ -1,6 +1,4 @@
-use Rattle.std.proofs.Common.{◌≡◌, ◌+◌, ◌∙◌, ℕ, ◌∷◌, [], sym, ap, arith}
-use Rattle.std.specs.Cmp.Lexicographic.{same_text}
-use Rattle.bib_spec.specs.Text.{Text}
+use Rattle.bib_store.proofs.Words.{◌≡◌, ◌+◌, ◌∙◌, ℕ, ◌∷◌, [], sym, ap, arith, same_text, Text}
 use Rattle.bib_store.proofs.Followed.{one_between}
 use Rattle.bib_store.proofs.exchanging.unchanged_first.Goals as goal
 

@@ -1,5 +1,4 @@
-use Rattle.std.proofs.Common.{◌≡◌, ◌+◌, ◌-◌, ◌∙◌, ℕ, suc, take, subst, arith}
-use Rattle.bib_store.specs.Following.{bodies_between, DefineNothing}
+use Rattle.bib_store.proofs.Words.{◌≡◌, ◌+◌, ◌-◌, ◌∙◌, ℕ, suc, take, subst, arith, bodies_between, DefineNothing}
 use Rattle.bib_store.proofs.TableSteps.{no_macro}
 use Rattle.bib_store.proofs.Followed.{body_between, pass_more}
 use Rattle.bib_store.proofs.following.are_others.Goals as goal

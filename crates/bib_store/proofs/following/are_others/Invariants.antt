@@ -1,6 +1,5 @@
-use Rattle.std.proofs.Common.{◌-◌, List, take}
+use Rattle.bib_store.proofs.Words.{◌-◌, List, take, bodies_between, AreItemsOf, DefineNothing}
 use Rattle.bib_spec.specs.Reading.{Item}
-use Rattle.bib_store.specs.Following.{bodies_between, AreItemsOf, DefineNothing}
 use Rattle.bib_store.proofs.following.are_others.Given as goal
 
 abbrev pub invariant-pass : goal.invariant-pass

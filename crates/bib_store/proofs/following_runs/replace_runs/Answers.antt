@@ -1,9 +1,7 @@
+use Rattle.bib_store.proofs.Words.{List, sym, subst, IsClean, AreFollowed}
 use Rattle.bib_store.proofs.KeptRuns.{followed_of, kept_again}
 use Rattle.bib_store.proofs.LedRuns.{all_led, all_back}
-use Rattle.std.proofs.Common.{List, sym, subst}
-use Rattle.bib_spec.specs.Clean.{IsClean}
 use Rattle.bib_items.specs.declared.list.Item.{Item}
-use Rattle.bib_store.specs.Runs.{AreFollowed}
 use Rattle.bib_store.proofs.following_runs.replace_runs.Goals as goal
 
 pub returns-in-Ok-clause-kept : goal.returns-in-Ok-clause-kept

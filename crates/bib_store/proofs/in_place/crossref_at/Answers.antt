@@ -1,8 +1,4 @@
-use Rattle.std.proofs.Common.{map, sym, subst, ◌∙◌, ap}
-use Rattle.bib_spec.specs.Texts.{Macros}
-use Rattle.bib_spec.specs.Records.{entry_in, crossref_text}
-use Rattle.bib_definitions.specs.Definitions.{AreAtMost}
-use Rattle.bib_store.specs.ItemTexts.{first_too_long, placed_texts}
+use Rattle.bib_store.proofs.Words.{map, sym, subst, ◌∙◌, ap, Macros, entry_in, crossref_text, AreAtMost, first_too_long, placed_texts}
 use Rattle.bib_store.proofs.in_place.crossref_at.Goals as goal
 
 pub crossref_within-requires-clause-longest : goal.crossref_within-requires-clause-longest

@@ -1,5 +1,4 @@
-use Rattle.std.proofs.Common.{◌∙◌, sym}
-use Rattle.std.specs.Cmp.Lexicographic.{same_text}
+use Rattle.bib_store.proofs.Words.{◌∙◌, sym, same_text}
 use Rattle.bib_store.proofs.PlacedItems.{same_in_place}
 use Rattle.bib_store.proofs.in_place.put.Goals as goal
 

@@ -1,8 +1,4 @@
-use Rattle.std.proofs.Common.{◌≡◌, ◌<◌, ◌+◌, ◌-◌, ◌^◌, ◌∙◌, ℕ, length, drop, refl, ap, subst, arith}
-use Rattle.bib_store.specs.Firm.{IsFirm}
-use Rattle.bib_store.specs.Following.{bodies_between}
-use Rattle.bib_store.specs.InPlace.{TakePlaces, with_bounds}
-use Rattle.bib_store.specs.Windows.{joined}
+use Rattle.bib_store.proofs.Words.{◌≡◌, ◌<◌, ◌+◌, ◌-◌, ◌^◌, ◌∙◌, ℕ, length, drop, refl, ap, subst, arith, IsFirm, bodies_between, TakePlaces, with_bounds, joined}
 use Rattle.bib_store.proofs.BehindFirst.{first_back, first_refused, all_gone, all_fit}
 use Rattle.bib_store.proofs.WalkedFiles.{with_len}
 use Rattle.bib_store.proofs.in_place.put_behind_first.Goals as goal
@@ -18,8 +14,8 @@ returns-in-Err-clause-same g c = λ _ old inner reads put.
     let one_for_one : to - from ≡ count = omega (arith, c.if-touched-count.false) in
     let firm : IsFirm c.args.tables.now = c.if-not-is_firm.ensures.firm refl in
     record {
-      len = c.learn.ensures.len;
-      tables = λ db front k. first_refused c.args.change.now old now count put some one_for_one few inner reads front db c.args.tables.now k firm c.learn.new.tables c.in-Err.ensures.err;
+      len = c.add_to_tables.ensures.len;
+      tables = λ db front k. first_refused c.args.change.now old now count put some one_for_one few inner reads front db c.args.tables.now k firm c.add_to_tables.new.tables c.in-Err.ensures.err;
     }
 
 pub returns-then-is_firm-clause-tables : goal.returns-then-is_firm-clause-tables
@@ -35,12 +31,12 @@ returns-then-is_firm-clause-tables g c = λ _ old front_len put front db inner k
     let firm : IsFirm c.args.tables.now = c.if-not-is_firm.ensures.firm refl in
     let still : IsFirm c.put_each.new.tables = c.if-is_firm.ensures.firm refl in
     let end : from + count + 1 + (many - 1) ≡ to + count = omega (arith, some, one_for_one, c.requires.ordered, c.if-count-len.false, c.len.ensures.count) in
-    let placed = subst (λ (n : ℕ). TakePlaces (from + 2) (bodies_between (from + count + 1) n now) (drop 1 inner.items) c.learn.new.tables c.put_each.new.tables) end (c.if-put_each.ensures.placed refl inner reads) in
+    let placed = subst (λ (n : ℕ). TakePlaces (from + 2) (bodies_between (from + count + 1) n now) (drop 1 inner.items) c.add_to_tables.new.tables c.put_each.new.tables) end (c.if-put_each.ensures.placed refl inner reads) in
     let tables = all_gone c.args.change.now old now count put some one_for_one few inner reads front db c.args.tables.now k firm
-    c.learn.new.tables c.put_each.new.tables c.forget.new.tables c.in-Ok.ensures.tables placed still c.forget.ensures.tables in (
-      with_len (joined c.args.change.now.window db inner).items c.forget.new.tables c.args.change.now.file_len tables,
+    c.add_to_tables.new.tables c.put_each.new.tables c.remove_from_tables.new.tables c.in-Ok.ensures.tables placed still c.remove_from_tables.ensures.tables in (
+      with_len (joined c.args.change.now.window db inner).items c.remove_from_tables.new.tables c.args.change.now.file_len tables,
       all_fit c.args.change.now old now count put some one_for_one few inner reads front db c.args.tables.now k firm
-          c.learn.new.tables c.put_each.new.tables c.forget.new.tables c.in-Ok.ensures.tables placed still c.forget.ensures.tables (c.forget.ensures.firm still) has.items,
+          c.add_to_tables.new.tables c.put_each.new.tables c.remove_from_tables.new.tables c.in-Ok.ensures.tables placed still c.remove_from_tables.ensures.tables (c.remove_from_tables.ensures.firm still) has.items,
     )
 
 pub returns-clause-same : goal.returns-clause-same
@@ -53,10 +49,10 @@ returns-clause-same g c = λ _ old inner reads put.
     let some : 0 < count = omega (arith, c.if-touched-eq0.false, c.if-touched-count.false) in
     let one_for_one : to - from ≡ count = omega (arith, c.if-touched-count.false) in
     let firm : IsFirm c.args.tables.now = c.if-not-is_firm.ensures.firm refl in
-    let again = ap (with_bounds c.learn.new.tables.bounds) c.put_each.ensures.rest in
+    let again = ap (with_bounds c.add_to_tables.new.tables.bounds) c.put_each.ensures.rest in
     record {
-      len = c.forget-2.ensures.len ∙ ap (λ t. t.file_len) again ∙ c.learn.ensures.len;
+      len = c.remove_from_tables-2.ensures.len ∙ ap (λ t. t.file_len) again ∙ c.add_to_tables.ensures.len;
       tables = λ db front k.
           first_back c.args.change.now old now count put some one_for_one few inner reads front db c.args.tables.now k firm
-          c.learn.new.tables _ c.forget-2.new.tables again c.in-Ok.ensures.tables c.learn.ensures.firm c.forget-2.ensures.tables;
+          c.add_to_tables.new.tables _ c.remove_from_tables-2.new.tables again c.in-Ok.ensures.tables c.add_to_tables.ensures.firm c.remove_from_tables-2.ensures.tables;
     }

@@ -1,10 +1,5 @@
-use Rattle.std.proofs.Common.{◌≡◌, ◌+◌, ◌-◌, ◌≤◌, ◌<◌, ◌∙◌, ℕ, List, zero, suc, Some, [], ◌∷◌, length, drop, slice_get, sym, ap, subst, refl, arith, length-drop}
-use Rattle.std.proofs.lemmas.List.Elements.{All-drop}
-use Rattle.bib_spec.specs.Text.{Text}
-use Rattle.bib_spec.specs.Bytes.{name_limit}
-use Rattle.bib_spec.specs.Reading.{Reads, IsItem}
-use Rattle.bib_store.specs.Following.{bodies_between}
-use Rattle.bib_store.specs.InPlace.{with_bounds}
+use Rattle.bib_store.proofs.Words.{◌≡◌, ◌+◌, ◌-◌, ◌≤◌, ◌<◌, ◌∙◌, ℕ, List, zero, suc, Some, [], ◌∷◌, length, drop, sym, ap, subst, refl, arith, All-drop, Text, name_limit, Reads, IsItem, bodies_between, with_bounds}
+use Rattle.std.proofs.Common.{slice_get, length-drop}
 use Rattle.bib_store.proofs.Followed.{body_between, length-between}
 use Rattle.bib_store.proofs.PlacedFiles.{counted_in}
 use Rattle.bib_store.proofs.KeptItems.{item_in}

@@ -1,7 +1,4 @@
-use Rattle.std.proofs.Common.{◌≡◌, ◌+◌, ◌-◌, length, drop}
-use Rattle.bib_spec.specs.Reading.{Reading, Reads}
-use Rattle.bib_store.specs.Following.{bodies_between}
-use Rattle.bib_store.specs.InPlace.{with_bounds}
+use Rattle.bib_store.proofs.Words.{◌≡◌, ◌+◌, ◌-◌, length, drop, Reading, Reads, bodies_between, with_bounds}
 use Rattle.bib_store.proofs.PlacedItems.{PlacedSoFar}
 use Rattle.bib_store.proofs.in_place.put_each.Given as goal
 

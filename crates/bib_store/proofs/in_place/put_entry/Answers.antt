@@ -1,6 +1,4 @@
-use Rattle.std.proofs.Common.{length, refl, subst}
-use Rattle.bib_spec.specs.Text.{Text}
-use Rattle.bib_store.specs.Bounds.{Admits}
+use Rattle.bib_store.proofs.Words.{length, refl, subst, Text, Admits}
 use Rattle.bib_store.proofs.PlacedItems.{entry_in_place}
 use Rattle.bib_store.proofs.in_place.put_entry.Goals as goal
 

@@ -1,5 +1,4 @@
-use Rattle.std.proofs.Common.{ap}
-use Rattle.bib_store.specs.InPlace.{with_bounds}
+use Rattle.bib_store.proofs.Words.{ap, with_bounds}
 use Rattle.bib_store.proofs.in_place.put_in_place.Goals as goal
 
 pub returns-then-put_each-clause-back : goal.returns-then-put_each-clause-back

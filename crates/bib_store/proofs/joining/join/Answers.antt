@@ -1,9 +1,7 @@
-use Rattle.std.proofs.Common.{◌++◌, ◌∙◌, ◌≤◌, List, ℕ, length, ap, arith}
+use Rattle.bib_store.proofs.Words.{◌++◌, ◌∙◌, ◌≤◌, List, ℕ, length, ap, arith, flat_map, between, kept_bytes}
 use Rattle.std.proofs.lemmas.List.{take_all}
 use Rattle.std.proofs.lemmas.Slice.{between_from_start}
-use Rattle.std.specs.List.{flat_map, between}
 use Rattle.bib_items.specs.declared.list.Item.{Item}
-use Rattle.bib_items.specs.Items.{kept_bytes}
 use Rattle.bib_store.proofs.joining.join.Goals as goal
 
 pub returns : goal.returns

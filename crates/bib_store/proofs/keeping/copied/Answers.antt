@@ -1,6 +1,5 @@
-use Rattle.std.proofs.Common.{◌<◌, ◌≤◌, length, inl, rules}
-use Rattle.bib_spec.specs.Bytes.{file_limit}
-use Rattle.bib_spec.specs.Fault.{too_long, no_memory}
+use Rattle.bib_store.proofs.Words.{◌<◌, ◌≤◌, length, inl, rules, file_limit, no_memory}
+use Rattle.bib_spec.specs.Fault.{too_long}
 use Rattle.bib_store.proofs.keeping.copied.Goals as goal
 
 pub returns-then-bytes-gt-FILE_LIMIT-clause-fault : goal.returns-then-bytes-gt-FILE_LIMIT-clause-fault

@@ -1,5 +1,4 @@
-use Rattle.std.proofs.Common.{inl}
-use Rattle.bib_spec.specs.Fault.{no_memory}
+use Rattle.bib_store.proofs.Words.{inl, no_memory}
 use Rattle.bib_store.proofs.OpenedFiles.{taken}
 use Rattle.bib_store.proofs.keeping.take_file.Goals as goal
 

@@ -1,5 +1,4 @@
-use Rattle.std.proofs.Common.{sym, ◌∙◌}
-use Rattle.bib_scan.specs.PartView.{part_view}
+use Rattle.bib_store.proofs.Words.{sym, ◌∙◌, part_view}
 use Rattle.bib_store.proofs.ShortValues.{alone_says}
 use Rattle.bib_store.proofs.measuring.only_text.Goals as goal
 

@@ -1,5 +1,4 @@
-use Rattle.std.proofs.Common.{◌∙◌, List, sym, subst, ap}
-use Rattle.bib_spec.specs.Pieces.{Piece, Fit, applied}
+use Rattle.bib_store.proofs.Words.{◌∙◌, List, sym, subst, ap, Piece, Fit, applied}
 use Rattle.bib_spec.proofs.WayBack.{fit_back, applied-reversed}
 use Rattle.bib_store.proofs.reversing.reverse.Goals as goal
 

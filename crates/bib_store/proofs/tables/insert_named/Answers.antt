@@ -1,7 +1,5 @@
-use Rattle.std.proofs.Common.{◌≡◌, ◌≤◌, ℕ, insert, length, refl, subst, arith}
-use Rattle.bib_entries.specs.EntryTable.{IsTableOf}
+use Rattle.bib_store.proofs.Words.{◌≡◌, ◌≤◌, ℕ, insert, length, refl, subst, arith, IsTableOf, err_always}
 use Rattle.bib_entries.proofs.Tables.{put_back}
-use Rattle.bib_spec.proofs.Results.{err_always}
 use Rattle.bib_store.proofs.tables.insert_named.Goals as goal
 
 pub returns-in_err-insert-clause-err : goal.returns-in_err-insert-clause-err

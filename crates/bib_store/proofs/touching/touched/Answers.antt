@@ -1,7 +1,4 @@
-use Rattle.std.proofs.Common.{arith, length-append}
-use Rattle.std.specs.List.{flat_map}
-use Rattle.bib_items.specs.Items.{kept_bytes}
-use Rattle.bib_items.proofs.Walks.{weight-take}
+use Rattle.bib_store.proofs.Words.{arith, length-append, flat_map, kept_bytes, weight-take}
 use Rattle.bib_store.proofs.touching.touched.Goals as goal
 
 pub overflow_add-start : goal.overflow_add-start

@@ -1,6 +1,4 @@
-use Rattle.std.proofs.Common.{◌++◌, ◌∙◌, List, ℕ, ap, ap₂}
-use Rattle.std.specs.List.{flat_map, between}
-use Rattle.bib_items.specs.Items.{kept_bytes}
+use Rattle.bib_store.proofs.Words.{◌++◌, ◌∙◌, List, ℕ, ap, ap₂, flat_map, between, kept_bytes}
 use Rattle.bib_store.proofs.window.text_of.Goals as goal
 
 pub returns : goal.returns

@@ -1,7 +1,4 @@
-use Rattle.std.proofs.Common.{◌<◌, ◌+◌, false, length, sym, ◌∙◌, ap, arith}
-use Rattle.std.proofs.lemmas.List.{take_all}
-use Rattle.part_spec.specs.Parts.{any_part, have_part}
-use Rattle.bib_items.specs.Seeking.{test_of}
+use Rattle.bib_tokens.proofs.Words.{◌<◌, ◌+◌, false, length, sym, ◌∙◌, ap, arith, take_all, any_part, have_part, test_of}
 use Rattle.bib_tokens.proofs.FirstFound.{first-is, first-none}
 use Rattle.bib_tokens.proofs.MetParts.{met-next}
 use Rattle.bib_tokens.proofs.PassedItems.{met-first}

@@ -1,5 +1,4 @@
-use Rattle.std.proofs.Common.{◌+◌, false, sym, ◌∙◌, arith}
-use Rattle.bib_items.specs.Seeking.{test_of}
+use Rattle.bib_tokens.proofs.Words.{◌+◌, false, sym, ◌∙◌, arith, test_of}
 use Rattle.bib_tokens.proofs.MetParts.{met-next, met-within}
 use Rattle.bib_tokens.proofs.PassedItems.{met-first, none-before}
 use Rattle.bib_tokens.proofs.tokens.is_met_before.Goals as goal

@@ -1,7 +1,4 @@
-use Rattle.std.proofs.Common.{◌≡◌, ◌≤◌, ◌-◌, false, length, take}
-use Rattle.part_spec.specs.Parts.{have_part}
-use Rattle.bib_items.specs.Seeking.{test_of}
-use Rattle.bib_store.specs.Meaning.{OfReading}
+use Rattle.bib_tokens.proofs.Words.{◌≡◌, ◌≤◌, ◌-◌, false, length, take, have_part, test_of, OfReading}
 use Rattle.bib_tokens.proofs.tokens.is_met_before.Given as goal
 
 abbrev pub invariant-items : goal.invariant-items

@@ -1,8 +1,5 @@
-use Rattle.std.proofs.Common.{◌==◌, not, List, length, sym, ◌∙◌, ap, subst, arith, ℕ}
+use Rattle.bib_tokens.proofs.Words.{◌==◌, not, List, length, sym, ◌∙◌, ap, subst, arith, ℕ, Text, token_seen, tokens_seen, AreFieldTokens, test_of}
 use Rattle.std.proofs.lemmas.List.{length-map}
-use Rattle.bib_spec.specs.Text.{Text}
-use Rattle.bib_tokens.specs.PlacedParts.{token_seen, tokens_seen, AreFieldTokens}
-use Rattle.bib_items.specs.Seeking.{test_of}
 use Rattle.bib_tokens.proofs.PlacedItems.{placed-fields, has-tokens, not_none}
 use Rattle.bib_tokens.proofs.MetParts.{item-met}
 use Rattle.bib_tokens.proofs.tokens.look_at.Goals as goal

@@ -1,10 +1,5 @@
-use Rattle.std.proofs.Common.{◌+◌, false, length, refl, ◌∙◌, ap, arith, ℕ}
-use Rattle.bib_scan.specs.View.{View}
-use Rattle.bib_scan.specs.Layout.{start_of}
+use Rattle.bib_tokens.proofs.Words.{◌+◌, false, length, refl, ◌∙◌, ap, arith, ℕ, View, start_of, tree_bytes, tokens_seen, test_of}
 use Rattle.std.proofs.lemmas.List.{length-append}
-use Rattle.bib_spec.specs.Tree.{tree_bytes}
-use Rattle.bib_tokens.specs.PlacedParts.{tokens_seen}
-use Rattle.bib_items.specs.Seeking.{test_of}
 use Rattle.bib_tokens.proofs.Elements.{slice_get-within, stands_alone, stands_on}
 use Rattle.bib_tokens.proofs.PlacedItems.{item-ends, placed-fields, place-next, tokens-start, tokens-next, tokens-end}
 use Rattle.bib_tokens.proofs.PassedItems.{tokens-pass, met-pass}

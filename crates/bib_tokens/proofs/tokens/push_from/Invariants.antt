@@ -1,7 +1,4 @@
-use Rattle.std.proofs.Common.{◌≡◌, ◌≤◌, ◌-◌, length, take}
-use Rattle.bib_store.specs.Meaning.{OfReading}
-use Rattle.bib_items.specs.Seeking.{test_of}
-use Rattle.bib_tokens.specs.PlacedParts.{tokens_seen}
+use Rattle.bib_tokens.proofs.Words.{◌≡◌, ◌≤◌, ◌-◌, length, take, OfReading, test_of, tokens_seen}
 use Rattle.bib_tokens.proofs.PlacedItems.{AreTokensTo}
 use Rattle.bib_tokens.proofs.MetParts.{IsMetFrom}
 use Rattle.bib_tokens.proofs.tokens.push_from.Given as goal

@@ -1,7 +1,4 @@
-use Rattle.std.proofs.Common.{List, refl, sym, subst, arith}
-use Rattle.bib_scan.specs.View.{Field}
-use Rattle.bib_tokens.specs.PlacedParts.{tokens_seen, ArePlacedFields, AreFieldTokens}
-use Rattle.bib_items.specs.Seeking.{test_of}
+use Rattle.bib_tokens.proofs.Words.{List, refl, sym, subst, arith, Field, tokens_seen, ArePlacedFields, AreFieldTokens, test_of}
 use Rattle.bib_tokens.proofs.Elements.{stands_alone, stands_on}
 use Rattle.bib_tokens.proofs.MetParts.{met-field, met-no_field}
 use Rattle.bib_tokens.proofs.tokens.push_in_fields.Goals as goal

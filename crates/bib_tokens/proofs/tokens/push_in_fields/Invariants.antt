@@ -1,7 +1,4 @@
-use Rattle.std.proofs.Common.{◌≡◌, ◌||◌, Bool, List, length, take, ℕ}
-use Rattle.bib_spec.specs.Text.{Text}
-use Rattle.bib_tokens.specs.PlacedParts.{tokens_seen, ArePlacedFields, AreFieldTokens, IsMetIn}
-use Rattle.bib_items.specs.Seeking.{test_of}
+use Rattle.bib_tokens.proofs.Words.{◌≡◌, ◌||◌, Bool, List, length, take, ℕ, Text, tokens_seen, ArePlacedFields, AreFieldTokens, IsMetIn, test_of}
 use Rattle.bib_tokens.proofs.tokens.push_in_fields.Given as goal
 
 abbrev pub invariant-fields : goal.invariant-fields

@@ -1,9 +1,5 @@
-use Rattle.std.proofs.Common.{◌+◌, ◌∷◌, ◌||◌, Bool, [], length, take, sym, ◌∙◌, ap, subst, arith}
-use Rattle.std.proofs.lemmas.List.{map-append}
-use Rattle.bib_scan.specs.PartView.{part_view}
+use Rattle.bib_tokens.proofs.Words.{◌+◌, ◌∷◌, ◌||◌, Bool, [], length, take, sym, ◌∙◌, ap, subst, arith, map-append, part_view, token_seen, tokens_seen, test_of}
 use Rattle.bib_value.proofs.RawLemmas.{parts_counted}
-use Rattle.bib_tokens.specs.PlacedParts.{token_seen, tokens_seen}
-use Rattle.bib_items.specs.Seeking.{test_of}
 use Rattle.bib_tokens.proofs.Elements.{stands_at_push}
 use Rattle.bib_tokens.proofs.PlacedValues.{AreValueTokensTo, part-placed, tokens-met_more, tokens-unmet_more, tokens-all}
 use Rattle.bib_tokens.proofs.MetParts.{IsMetTo, met-part, met-parts, met-only}

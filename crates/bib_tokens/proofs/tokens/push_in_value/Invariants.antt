@@ -1,6 +1,4 @@
-use Rattle.std.proofs.Common.{◌≡◌, length, take}
-use Rattle.bib_tokens.specs.PlacedParts.{tokens_seen}
-use Rattle.bib_items.specs.Seeking.{test_of}
+use Rattle.bib_tokens.proofs.Words.{◌≡◌, length, take, tokens_seen, test_of}
 use Rattle.bib_tokens.proofs.PlacedValues.{AreValueTokensTo}
 use Rattle.bib_tokens.proofs.MetParts.{IsMetTo}
 use Rattle.bib_tokens.proofs.tokens.push_in_value.Given as goal

@@ -1,8 +1,4 @@
-use Rattle.std.proofs.Common.{◌++◌, ◌∷◌, [], ◌∙◌, sym, ap, append-nil}
-use Rattle.std.proofs.lemmas.List.{map-append}
-use Rattle.bib_scan.specs.PartView.{part_view}
-use Rattle.bib_tokens.specs.PlacedParts.{token_seen, tokens_seen}
-use Rattle.bib_items.specs.Seeking.{test_of}
+use Rattle.bib_tokens.proofs.Words.{◌++◌, ◌∷◌, [], ◌∙◌, sym, ap, append-nil, map-append, part_view, token_seen, tokens_seen, test_of}
 use Rattle.bib_tokens.proofs.PlacedValues.{only_met, only_unmet}
 use Rattle.bib_tokens.proofs.tokens.push_only.Goals as goal
 

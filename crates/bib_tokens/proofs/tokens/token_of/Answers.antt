@@ -1,8 +1,4 @@
-use Rattle.std.proofs.Common.{◌≡◌, take, sym, ◌∙◌, ap, ap₂, arith, option_map, Some, ◌+◌, true}
-use Rattle.bib_spec.specs.Text.{Text}
-use Rattle.bib_spec.specs.Tree.{Part, part_bytes}
-use Rattle.bib_scan.specs.PartView.{part_view}
-use Rattle.bib_tokens.specs.PlacedParts.{token_at}
+use Rattle.bib_tokens.proofs.Words.{◌≡◌, take, sym, ◌∙◌, ap, ap₂, arith, option_map, Some, ◌+◌, true, Text, Part, part_bytes, part_view, token_at}
 use Rattle.bib_tokens.proofs.PlacedValues.{StandsIn, placed-part, stands-within, stands-there, standing}
 use Rattle.bib_tokens.proofs.tokens.token_of.Goals as goal
 

@@ -1,6 +1,4 @@
-use Rattle.std.proofs.Common.{refl}
-use Rattle.bib_spec.specs.Texts.{months, field_text}
-use Rattle.bib_spec.specs.Text.{is_space, is_name_byte, is_new_key_byte, is_name_within, is_new_key}
+use Rattle.edit_spec.proofs.Words.{refl, months, field_text, is_space, is_name_byte, is_new_key_byte, is_name_within, is_new_key}
 use Rattle.edit_spec.proofs.examples.a_crossref_of_parts_is_renamed.Goals as goal
 
 pub returns : goal.returns

@@ -1,6 +1,4 @@
-use Rattle.std.proofs.Common.{refl, arith}
-use Rattle.bib_spec.specs.Texts.{months, field_text}
-use Rattle.bib_spec.specs.Text.{is_space, is_name_byte, is_new_key_byte, is_name_within, is_new_key}
+use Rattle.edit_spec.proofs.Words.{refl, arith, months, field_text, is_space, is_name_byte, is_new_key_byte, is_name_within, is_new_key}
 use Rattle.edit_spec.proofs.examples.a_macro_defined_twice_has_two_texts.Goals as goal
 
 pub returns : goal.returns

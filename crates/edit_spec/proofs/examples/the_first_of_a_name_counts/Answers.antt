@@ -1,6 +1,5 @@
-use Rattle.std.proofs.Common.{refl, arith, inl}
-use Rattle.bib_spec.specs.Texts.{months, field_text}
-use Rattle.bib_spec.specs.Text.{is_space, is_name_byte, is_new_key_byte, is_name_within, is_new_key}
+use Rattle.edit_spec.proofs.Words.{refl, arith, months, field_text, is_space, is_name_byte, is_new_key_byte, is_name_within, is_new_key}
+use Rattle.std.proofs.Common.{inl}
 use Rattle.edit_spec.proofs.examples.the_first_of_a_name_counts.Goals as goal
 
 pub returns : goal.returns

@@ -1,4 +1,4 @@
-use Rattle.std.proofs.Common.{refl}
+use Rattle.history_spec.proofs.Words.{refl}
 use Rattle.history_spec.proofs.Glued.{composed-fit, composed-lead}
 use Rattle.history_spec.proofs.Parted.{members-are-parted}
 use Rattle.history_spec.proofs.Untouched.{untouched-stay}

@@ -1,10 +1,4 @@
-use Rattle.std.proofs.Common.{◌≡◌, ◌∙◌, sym}
-use Rattle.std.proofs.lemmas.Bool.Decides.{not_from_Decides}
-use Rattle.std.proofs.lemmas.Slice.Eq.{bytes_eq-Decides}
-use Rattle.bib_spec.specs.Text.{Text}
-use Rattle.journal_format.specs.JournalText.{version_line, IsKnown}
-use Rattle.journal_format.specs.Wrong.{IsLineOf}
-use Rattle.journal_format.specs.declared.version.Version.TheVariants.{First, Second}
+use Rattle.journal_format.proofs.Words.{◌≡◌, ◌∙◌, sym, not_from_Decides, bytes_eq-Decides, Text, version_line, IsKnown, IsLineOf, First, Second}
 use Rattle.journal_format.proofs.heads.read_version.Goals as goal
 
 pub returns-then-eq-clause-some : goal.returns-then-eq-clause-some

@@ -1,4 +1,4 @@
-use Rattle.std.proofs.Common.{◌≡◌, arith}
+use Rattle.journal_format.proofs.Words.{◌≡◌, arith}
 use Rattle.journal_format.proofs.NumberLines.{same_number, numbers_uncut, numbers_cut, lens_uncut, lens_cut}
 use Rattle.journal_format.proofs.pieces.read_numbers.Goals as goal
 

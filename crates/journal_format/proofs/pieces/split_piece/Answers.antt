@@ -1,4 +1,4 @@
-use Rattle.std.proofs.Common.{◌∙◌}
+use Rattle.journal_format.proofs.Words.{◌∙◌}
 use Rattle.journal_format.proofs.PieceTexts.{piece_read}
 use Rattle.journal_format.proofs.pieces.split_piece.Goals as goal
 

@@ -1,4 +1,4 @@
-use Rattle.std.proofs.Common.{◌-◌, ◌^◌, ℕ, min, ◌∙◌, ap}
+use Rattle.journal_format.proofs.Words.{◌-◌, ◌^◌, ℕ, min, ◌∙◌, ap}
 use Rattle.journal_format.proofs.StepTextLemmas.{len_all}
 use Rattle.journal_format.proofs.step_text.piece_texts_len.Goals as goal
 

@@ -1,4 +1,4 @@
-use Rattle.std.proofs.Common.{◌≡◌, ◌-◌, ◌^◌, min}
+use Rattle.journal_format.proofs.Words.{◌≡◌, ◌-◌, ◌^◌, min}
 use Rattle.journal_format.proofs.StepTextLemmas.{len_so_far}
 use Rattle.journal_format.proofs.step_text.piece_texts_len.Given as goal
 

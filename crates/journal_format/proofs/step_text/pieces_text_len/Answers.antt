@@ -1,4 +1,4 @@
-use Rattle.std.proofs.Common.{arith}
+use Rattle.journal_format.proofs.Words.{arith}
 use Rattle.journal_format.proofs.StepTextLemmas.{pieces_len}
 use Rattle.journal_format.proofs.step_text.pieces_text_len.Goals as goal
 

@@ -1,5 +1,4 @@
-use Rattle.std.proofs.Common.{◌≡◌, ◌-◌, ◌^◌, min, take, sum_by}
-use Rattle.history_spec.specs.Steps.{step_text_len}
+use Rattle.journal_format.proofs.Words.{◌≡◌, ◌-◌, ◌^◌, min, take, sum_by, step_text_len}
 use Rattle.journal_format.proofs.step_text.step_texts_len.Given as goal
 
 abbrev pub invariant-step : goal.invariant-step

@@ -1,8 +1,4 @@
-use Rattle.std.proofs.Common.{◌≡◌, ◌+◌, List, ℕ, arith, ap, sym, ◌∙◌, subst, length}
-use Rattle.std.proofs.lemmas.Result.{err_from_is_err_and}
-use Rattle.bib_spec.specs.Pieces.{Piece, end_of}
-use Rattle.bib_spec.specs.Text.{Text}
-use Rattle.journal_format.specs.Wrong.{BeginsWithPieces, IsWrongPiece, HasWrongPieces}
+use Rattle.journal_format.proofs.Words.{◌≡◌, ◌+◌, List, ℕ, arith, ap, sym, ◌∙◌, subst, length, err_from_is_err_and, Piece, end_of, Text, BeginsWithPieces, IsWrongPiece, HasWrongPieces}
 use Rattle.journal_format.proofs.PieceTexts.{ArePiecesRead, stops_weaker, no_pieces_read, one_more_piece, pieces_read, pieces_wrong}
 use Rattle.journal_format.proofs.steps.split_pieces.Goals as goal
 

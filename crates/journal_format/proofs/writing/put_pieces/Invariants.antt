@@ -1,7 +1,4 @@
-use Rattle.std.proofs.Common.{◌≡◌, ◌++◌, ◌∷◌, [], length, take, decimal}
-use Rattle.std.specs.List.{flat_map}
-use Rattle.bib_spec.specs.Bytes.{line_feed}
-use Rattle.history_spec.specs.Steps.{piece_text}
+use Rattle.journal_format.proofs.Words.{◌≡◌, ◌++◌, ◌∷◌, [], length, take, decimal, flat_map, line_feed, piece_text}
 use Rattle.journal_format.proofs.writing.put_pieces.Given as goal
 
 abbrev pub invariant-piece : goal.invariant-piece

@@ -1,8 +1,4 @@
-use Rattle.std.proofs.Common.{◌≡◌, ◌∙◌, ◌++◌, List, take, get_or, sym, ap}
-use Rattle.std.specs.List.{flat_map}
-use Rattle.std.proofs.lemmas.List.{take_more, flat_map_more}
-use Rattle.bib_spec.specs.Text.{Text}
-use Rattle.history_spec.specs.Steps.{Step, step_text}
+use Rattle.journal_format.proofs.Words.{◌≡◌, ◌∙◌, ◌++◌, List, take, get_or, sym, ap, flat_map, take_more, flat_map_more, Text, Step, step_text}
 use Rattle.journal_format.proofs.writing.put_steps.Goals as goal
 
 pub step-preserved : goal.step-preserved

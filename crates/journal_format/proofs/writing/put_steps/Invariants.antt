@@ -1,6 +1,4 @@
-use Rattle.std.proofs.Common.{◌≡◌, ◌++◌, take}
-use Rattle.std.specs.List.{flat_map}
-use Rattle.history_spec.specs.Steps.{step_text}
+use Rattle.journal_format.proofs.Words.{◌≡◌, ◌++◌, take, flat_map, step_text}
 use Rattle.journal_format.proofs.writing.put_steps.Given as goal
 
 abbrev pub invariant-step : goal.invariant-step

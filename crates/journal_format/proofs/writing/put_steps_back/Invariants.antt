@@ -1,6 +1,4 @@
-use Rattle.std.proofs.Common.{◌≡◌, ◌++◌, length, reverse}
-use Rattle.std.specs.List.{flat_map}
-use Rattle.history_spec.specs.Steps.{step_text}
+use Rattle.journal_format.proofs.Words.{◌≡◌, ◌++◌, length, reverse, flat_map, step_text}
 use Rattle.journal_format.proofs.writing.put_steps_back.Given as goal
 
 abbrev pub invariant-step : goal.invariant-step

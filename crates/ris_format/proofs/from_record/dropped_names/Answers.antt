@@ -1,8 +1,6 @@
-use Rattle.std.proofs.Common.{◌≡◌, suc, ◌+◌, Bool, true, false, List, [], ◌∷◌, ◌++◌, drop, map, sym, ap, ◌∙◌, subst, append_assoc, add-one, drop-cons}
-use Rattle.std.specs.Prelude.{filter, if◌then◌else◌}
-use Rattle.bib_spec.specs.Text.{Text}
-use Rattle.bib_spec.specs.Records.{RecordField}
-use Rattle.ris_format.specs.Mapping.{Fields, is_dropped}
+use Rattle.ris_format.proofs.Words.{◌≡◌, suc, ◌+◌, Bool, true, false, [], ◌∷◌, ◌++◌, drop, sym, ap, ◌∙◌, subst, if◌then◌else◌, Text, RecordField, Fields, is_dropped}
+use Rattle.std.proofs.Common.{List, map, append_assoc, add-one, drop-cons}
+use Rattle.std.specs.Prelude.{filter}
 use Rattle.ris_format.proofs.from_record.dropped_names.Goals as goal
 
 abbrev names_of : (RecordField → Bool) → Fields → List Text

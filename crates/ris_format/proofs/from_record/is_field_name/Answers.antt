@@ -1,7 +1,5 @@
-use Rattle.std.proofs.Common.{◌∙◌, ◌||◌, map, Bor, Bool, List, refl, sym, ap}
-use Rattle.std.specs.List.{list_any}
-use Rattle.std.specs.Str.{bytes_eq}
-use Rattle.bib_spec.specs.Text.{Text}
+use Rattle.ris_format.proofs.Words.{◌∙◌, ◌||◌, Bor, Bool, refl, sym, ap, list_any, bytes_eq, Text}
+use Rattle.std.proofs.Common.{map, List}
 use Rattle.ris_format.proofs.LoopSteps.{passed, decided, none_left}
 use Rattle.ris_format.proofs.from_record.is_field_name.Goals as goal
 

@@ -1,5 +1,5 @@
-use Rattle.std.proofs.lemmas.Result.{on_ok_weaker}
-use Rattle.ris_format.specs.Mapping.{written_names, written_titles, written_numbers, written_publishers, written_notes}
+use Rattle.ris_format.proofs.Words.{on_ok_weaker, written_titles, written_numbers, written_publishers, written_notes}
+use Rattle.ris_format.specs.Mapping.{written_names}
 use Rattle.ris_format.proofs.SectionLaws.{five_sections}
 use Rattle.ris_format.proofs.from_record.push_fields.Goals as goal
 

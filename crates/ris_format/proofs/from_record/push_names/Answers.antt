@@ -1,10 +1,5 @@
-use Rattle.std.proofs.Common.{◌∙◌, ◌++◌, ap, codes}
-use Rattle.std.specs.List.{flat_map}
-use Rattle.std.proofs.lemmas.Result.{on_ok_weaker}
-use Rattle.bib_spec.specs.Text.{Text}
-use Rattle.ris_format.specs.Lines.{tagged, tagged_lines}
-use Rattle.ris_format.specs.People.{written_people}
-use Rattle.ris_format.specs.Mapping.{text_of}
+use Rattle.ris_format.proofs.Words.{◌∙◌, ◌++◌, ap, flat_map, on_ok_weaker, Text, tagged, tagged_lines, written_people, text_of}
+use Rattle.std.proofs.Common.{codes}
 use Rattle.ris_format.proofs.SectionLaws.{two_groups}
 use Rattle.ris_format.proofs.from_record.push_names.Goals as goal
 

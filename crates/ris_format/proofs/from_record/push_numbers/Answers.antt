@@ -1,9 +1,5 @@
+use Rattle.ris_format.proofs.Words.{on_ok_weaker, single, tagged, written_date, written_start, written_end, text_of}
 use Rattle.std.proofs.Common.{codes}
-use Rattle.std.proofs.lemmas.Result.{on_ok_weaker}
-use Rattle.ris_format.specs.Lines.{single, tagged}
-use Rattle.ris_format.specs.Dates.{written_date}
-use Rattle.ris_format.specs.Pages.{written_start, written_end}
-use Rattle.ris_format.specs.Mapping.{text_of}
 use Rattle.ris_format.proofs.SectionLaws.{five_groups}
 use Rattle.ris_format.proofs.from_record.push_numbers.Goals as goal
 

@@ -1,8 +1,5 @@
+use Rattle.ris_format.proofs.Words.{on_ok_weaker, publisher_field, serial_field, single, tagged, text_of}
 use Rattle.std.proofs.Common.{codes}
-use Rattle.std.proofs.lemmas.Result.{on_ok_weaker}
-use Rattle.ris_format.specs.Kinds.{publisher_field, serial_field}
-use Rattle.ris_format.specs.Lines.{single, tagged}
-use Rattle.ris_format.specs.Mapping.{text_of}
 use Rattle.ris_format.proofs.SectionLaws.{three_groups}
 use Rattle.ris_format.proofs.from_record.push_publishers.Goals as goal
 

@@ -1,9 +1,5 @@
-use Rattle.std.proofs.Common.{◌≡◌, ◌∙◌, ◌++◌, ap, codes, rules}
-use Rattle.std.specs.List.{flat_map}
-use Rattle.std.proofs.lemmas.Result.{on_ok_weaker}
-use Rattle.bib_spec.specs.Text.{Text}
-use Rattle.ris_format.specs.Lines.{single, tagged, tagged_lines, lines_of}
-use Rattle.ris_format.specs.Mapping.{Fields, written_fields}
+use Rattle.ris_format.proofs.Words.{◌≡◌, ◌∙◌, ◌++◌, ap, rules, flat_map, on_ok_weaker, Text, single, tagged, tagged_lines, lines_of, Fields, written_fields}
+use Rattle.std.proofs.Common.{codes}
 use Rattle.ris_format.proofs.SectionLaws.{section_and_group}
 use Rattle.ris_format.proofs.from_record.push_record.Goals as goal
 

@@ -1,7 +1,5 @@
+use Rattle.ris_format.proofs.Words.{on_ok_weaker, single, tagged, booktitle_text, text_of}
 use Rattle.std.proofs.Common.{codes}
-use Rattle.std.proofs.lemmas.Result.{on_ok_weaker}
-use Rattle.ris_format.specs.Lines.{single, tagged}
-use Rattle.ris_format.specs.Mapping.{booktitle_text, text_of}
 use Rattle.ris_format.proofs.SectionLaws.{four_groups}
 use Rattle.ris_format.proofs.from_record.push_titles.Goals as goal
 

@@ -1,8 +1,5 @@
-use Rattle.std.proofs.Common.{◌∙◌, ◌++◌, [], ◌∷◌, ap}
+use Rattle.ris_format.proofs.Words.{◌∙◌, ◌++◌, [], ◌∷◌, ap, flat_map, RisLine, lines_of}
 use Rattle.std.specs.Prelude.{List}
-use Rattle.std.specs.List.{flat_map}
-use Rattle.ris_text.specs.declared.records.RisLine.{RisLine}
-use Rattle.ris_format.specs.Lines.{lines_of}
 use Rattle.ris_format.specs.Mapping.{written}
 use Rattle.ris_format.proofs.SectionLaws.{kept_whole}
 use Rattle.ris_format.proofs.from_record.record_lines.Goals as goal

@@ -1,12 +1,8 @@
-use Rattle.std.proofs.Common.{◌≡◌, ◌∙◌, ◌++◌, ap, rules}
-use Rattle.bib_spec.specs.Text.{Text}
+use Rattle.ris_format.proofs.Words.{◌≡◌, ◌∙◌, ◌++◌, ap, rules, Text, Kind, kind_of_entry, ris_type, lines_of, ris}
 use Rattle.ris_text.specs.Tags.{begin_tag}
 use Rattle.ris_text.specs.Writing.{written, ended}
 use Rattle.ris_text.proofs.WriteLemmas.{kept_text, record_after}
-use Rattle.ris_format.specs.declared.kinds.Kind.{Kind}
-use Rattle.ris_format.specs.Kinds.{kind_of_entry, ris_type}
-use Rattle.ris_format.specs.Lines.{lines_of}
-use Rattle.ris_format.specs.Mapping.{ris, written as written_groups}
+use Rattle.ris_format.specs.Mapping.{written as written_groups}
 use Rattle.ris_format.proofs.from_record.write_entry.Goals as goal
 
 pub returns-clause-text : goal.returns-clause-text

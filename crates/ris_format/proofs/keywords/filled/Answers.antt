@@ -1,10 +1,6 @@
-use Rattle.std.proofs.Common.{◌∙◌, ◌++◌, map, Bor, List, refl, sym, ap}
+use Rattle.ris_format.proofs.Words.{◌∙◌, ◌++◌, Bor, refl, sym, ap, cond-true, cond-false, map-append, Text, has_bytes, made_all}
+use Rattle.std.proofs.Common.{map, List}
 use Rattle.std.specs.Prelude.{filter}
-use Rattle.std.proofs.lemmas.Bool.{cond-true, cond-false}
-use Rattle.std.proofs.lemmas.List.{map-append}
-use Rattle.bib_spec.specs.Text.{Text}
-use Rattle.ris_format.specs.Lines.{has_bytes}
-use Rattle.bib_names.proofs.LoopSteps.{made_all}
 use Rattle.ris_format.proofs.LoopSteps.{kept_more, passed}
 use Rattle.ris_format.proofs.keywords.filled.Goals as goal
 use Rattle.ris_format.proofs.keywords.filled.Goals.{then-has_bytes+in_ok-push, else-has_bytes}

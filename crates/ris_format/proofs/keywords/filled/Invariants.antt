@@ -1,6 +1,6 @@
-use Rattle.std.proofs.Common.{◌≡◌, ◌++◌, drop, map}
+use Rattle.ris_format.proofs.Words.{◌≡◌, ◌++◌, drop, has_bytes}
+use Rattle.std.proofs.Common.{map}
 use Rattle.std.specs.Prelude.{filter}
-use Rattle.ris_format.specs.Lines.{has_bytes}
 use Rattle.ris_format.proofs.keywords.filled.Given as goal
 
 abbrev pub invariant-loop-piece : goal.invariant-loop-piece

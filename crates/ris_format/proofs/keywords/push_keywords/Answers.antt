@@ -1,8 +1,5 @@
-use Rattle.std.proofs.Common.{map, Bor, List, refl}
-use Rattle.std.specs.List.{flat_map}
-use Rattle.bib_spec.specs.Text.{Text}
-use Rattle.ris_format.specs.Lines.{line}
-use Rattle.bib_names.proofs.LoopSteps.{made_more, made_all}
+use Rattle.ris_format.proofs.Words.{Bor, refl, flat_map, Text, line, made_more, made_all}
+use Rattle.std.proofs.Common.{map, List}
 use Rattle.ris_format.proofs.keywords.push_keywords.Goals as goal
 
 pub loop-word-preserved : goal.loop-word-preserved

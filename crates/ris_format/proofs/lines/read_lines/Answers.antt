@@ -1,8 +1,5 @@
-use Rattle.std.proofs.Common.{◌≡◌, ◌∙◌, ◌++◌, ◌∷◌, List, refl, sym, ap}
-use Rattle.std.proofs.lemmas.Bool.{cond-true, cond-false}
-use Rattle.ris_text.specs.declared.records.RisLine.{RisLine}
-use Rattle.ris_format.specs.Lines.{has_bytes, spaced, read_lines}
-use Rattle.bib_names.proofs.LoopSteps.{made_all}
+use Rattle.ris_format.proofs.Words.{◌≡◌, ◌∙◌, ◌++◌, ◌∷◌, refl, sym, ap, cond-true, cond-false, RisLine, has_bytes, spaced, read_lines, made_all}
+use Rattle.std.proofs.Common.{List}
 use Rattle.ris_format.proofs.LoopSteps.{kept_more, passed}
 use Rattle.ris_format.proofs.lines.read_lines.Goals as goal
 use Rattle.ris_format.proofs.lines.read_lines.Goals.{then-has_bytes+in_ok-push, else-has_bytes}

@@ -1,10 +1,5 @@
-use Rattle.std.proofs.Common.{◌∙◌, ◌++◌, ◌∷◌, map, Bor, List, refl, sym, ap}
-use Rattle.std.proofs.lemmas.Bool.{cond-true, cond-false}
-use Rattle.std.proofs.lemmas.List.{map-append}
-use Rattle.bib_spec.specs.Text.{Text}
-use Rattle.ris_text.specs.declared.records.RisLine.{RisLine}
-use Rattle.ris_format.specs.Lines.{values_at}
-use Rattle.bib_names.proofs.LoopSteps.{made_all}
+use Rattle.ris_format.proofs.Words.{◌∙◌, ◌++◌, ◌∷◌, Bor, refl, sym, ap, cond-true, cond-false, map-append, Text, RisLine, values_at, made_all}
+use Rattle.std.proofs.Common.{map, List}
 use Rattle.ris_format.proofs.LoopSteps.{kept_more, passed}
 use Rattle.ris_format.proofs.lines.values_at.Goals as goal
 use Rattle.ris_format.proofs.lines.values_at.Goals.{then-has_tag+in_ok-push, else-has_tag}

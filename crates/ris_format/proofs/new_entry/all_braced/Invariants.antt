@@ -1,5 +1,5 @@
-use Rattle.std.proofs.Common.{◌≡◌, take, map}
-use Rattle.ris_format.specs.Entry.{value_field}
+use Rattle.ris_format.proofs.Words.{◌≡◌, take, value_field}
+use Rattle.std.proofs.Common.{map}
 use Rattle.ris_format.proofs.new_entry.all_braced.Given as goal
 
 abbrev pub invariant-loop-field : goal.invariant-loop-field

@@ -1,5 +1,5 @@
-use Rattle.std.proofs.Common.{◌≡◌, ◌++◌, length, take, drop, map}
-use Rattle.ris_format.specs.Entry.{value_field}
+use Rattle.ris_format.proofs.Words.{◌≡◌, ◌++◌, length, take, drop, value_field}
+use Rattle.std.proofs.Common.{map}
 use Rattle.ris_format.proofs.new_entry.brace_all.Given as goal
 
 abbrev pub invariant-fields : goal.invariant-fields

@@ -1,6 +1,5 @@
-use Rattle.std.proofs.Common.{◌-◌, sym, ap, ◌∙◌, arith}
+use Rattle.ris_format.proofs.Words.{◌-◌, sym, ap, ◌∙◌, arith, is_margin}
 use Rattle.std.specs.Prelude.{not}
-use Rattle.ris_format.specs.Pages.{is_margin}
 use Rattle.bib_text.proofs.TrimLemmas.{IsTrimming-less, IsTrimming-done, IsTrimming-none, trimmed_at}
 use Rattle.ris_format.proofs.pages.before_margin.Goals as goal
 use Rattle.ris_format.proofs.pages.before_margin.Goals.{then-loop-end-test+else-is_margin, else-loop-end-test}

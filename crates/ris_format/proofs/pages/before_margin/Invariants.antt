@@ -1,6 +1,5 @@
-use Rattle.std.proofs.Common.{length}
+use Rattle.ris_format.proofs.Words.{length, is_margin}
 use Rattle.std.specs.Prelude.{not}
-use Rattle.ris_format.specs.Pages.{is_margin}
 use Rattle.bib_text.proofs.TrimLemmas.{IsTrimming}
 use Rattle.ris_format.proofs.pages.before_margin.Given as goal
 

@@ -1,7 +1,5 @@
-use Rattle.std.proofs.Common.{◌∙◌, ◌&&◌, map, Bor, Bool, List, refl, sym, ap}
-use Rattle.std.specs.List.{list_all}
-use Rattle.bib_spec.specs.Text.{Text}
-use Rattle.ris_format.specs.People.{is_plain_name}
+use Rattle.ris_format.proofs.Words.{◌∙◌, ◌&&◌, Bor, Bool, refl, sym, ap, list_all, Text, is_plain_name}
+use Rattle.std.proofs.Common.{map, List}
 use Rattle.ris_format.proofs.LoopSteps.{passed, decided, none_left}
 use Rattle.ris_format.proofs.people.are_all_plain.Goals as goal
 

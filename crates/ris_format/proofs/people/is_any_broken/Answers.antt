@@ -1,7 +1,5 @@
-use Rattle.std.proofs.Common.{◌∙◌, ◌||◌, map, Bor, Bool, List, refl, sym, ap}
-use Rattle.std.specs.List.{list_any}
-use Rattle.bib_spec.specs.Text.{Text}
-use Rattle.ris_format.specs.People.{is_broken}
+use Rattle.ris_format.proofs.Words.{◌∙◌, ◌||◌, Bor, Bool, refl, sym, ap, list_any, Text, is_broken}
+use Rattle.std.proofs.Common.{map, List}
 use Rattle.ris_format.proofs.LoopSteps.{passed, decided, none_left}
 use Rattle.ris_format.proofs.people.is_any_broken.Goals as goal
 

@@ -1,8 +1,5 @@
-use Rattle.std.proofs.Common.{◌≡◌, ◌∙◌, false, List, length, map, refl, sym, ap, arith}
-use Rattle.std.proofs.lemmas.List.{length-map}
-use Rattle.bib_spec.specs.Text.{Text}
-use Rattle.bib_names.specs.NameList.{names_of}
-use Rattle.bib_names.proofs.BalanceLaws.{IsBalanced-from_test}
+use Rattle.ris_format.proofs.Words.{◌≡◌, ◌∙◌, false, length, refl, sym, ap, arith, length-map, Text, names_of, IsBalanced-from_test}
+use Rattle.std.proofs.Common.{List, map}
 use Rattle.ris_format.proofs.TakenApart.{listed-balanced}
 use Rattle.ris_format.proofs.NameScans.{free-one, lacks-free}
 use Rattle.ris_format.proofs.OpaqueValues.{opaque-many, opaque-few}

@@ -1,5 +1,4 @@
-use Rattle.std.proofs.Common.{◌≡◌, false, drop}
-use Rattle.ris_format.specs.People.{lacks_and}
+use Rattle.ris_format.proofs.Words.{◌≡◌, false, drop, lacks_and}
 use Rattle.ris_format.proofs.people.lacks_and.Given as goal
 
 abbrev pub invariant-loop-byte : goal.invariant-loop-byte

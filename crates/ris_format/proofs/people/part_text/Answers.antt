@@ -1,5 +1,4 @@
-use Rattle.std.proofs.Common.{◌≡◌, ◌∙◌, ap, arith, rules}
-use Rattle.ris_format.specs.People.{to_last_end}
+use Rattle.ris_format.proofs.Words.{◌≡◌, ◌∙◌, ap, arith, rules, to_last_end}
 use Rattle.ris_format.proofs.SliceLemmas.{first-part}
 use Rattle.ris_format.proofs.people.part_text.Goals as goal
 

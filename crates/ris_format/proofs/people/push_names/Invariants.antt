@@ -1,7 +1,5 @@
-use Rattle.std.proofs.Common.{◌≡◌, ◌++◌, take, drop, map}
-use Rattle.std.specs.List.{flat_map, list_any}
-use Rattle.ris_format.specs.Lines.{line}
-use Rattle.ris_format.specs.People.{is_broken, written_name}
+use Rattle.ris_format.proofs.Words.{◌≡◌, ◌++◌, take, drop, flat_map, list_any, line, is_broken, written_name}
+use Rattle.std.proofs.Common.{map}
 use Rattle.ris_format.proofs.people.push_names.Given as goal
 
 abbrev pub invariant-names : goal.invariant-names

@@ -1,9 +1,6 @@
-use Rattle.std.proofs.Common.{◌∙◌, ◌++◌, map, Bor, List, refl}
+use Rattle.ris_format.proofs.Words.{◌∙◌, ◌++◌, Bor, refl, flat_map, Text, read_name, made_more, made_all}
+use Rattle.std.proofs.Common.{map, List}
 use Rattle.std.specs.Prelude.{codes}
-use Rattle.std.specs.List.{flat_map}
-use Rattle.bib_spec.specs.Text.{Text}
-use Rattle.ris_format.specs.People.{read_name}
-use Rattle.bib_names.proofs.LoopSteps.{made_more, made_all}
 use Rattle.ris_format.proofs.people.read_people.Goals as goal
 
 abbrev on : List (Bor Text) → Text

@@ -1,4 +1,4 @@
-use Rattle.std.proofs.Common.{◌∙◌, arith}
+use Rattle.ris_format.proofs.Words.{◌∙◌, arith}
 use Rattle.ris_format.proofs.SliceLemmas.{last-end}
 use Rattle.ris_format.proofs.people.to_last_end.Goals as goal
 

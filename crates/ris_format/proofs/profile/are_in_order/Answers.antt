@@ -1,6 +1,5 @@
-use Rattle.std.proofs.Common.{◌∙◌, map, sym, ap, arith}
-use Rattle.std.proofs.lemmas.List.{drop_all}
-use Rattle.ris_format.specs.Profile.{are_in_order}
+use Rattle.ris_format.proofs.Words.{◌∙◌, sym, ap, arith, drop_all, are_in_order}
+use Rattle.std.proofs.Common.{map}
 use Rattle.ris_format.proofs.OrderLaws.{order-left}
 use Rattle.ris_format.proofs.profile.are_in_order.Goals as goal
 

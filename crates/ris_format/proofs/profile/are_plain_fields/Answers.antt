@@ -1,6 +1,4 @@
-use Rattle.std.proofs.Common.{◌∙◌, ◌&&◌, ◌∷◌, sym, ap, refl}
-use Rattle.std.specs.List.{list_all}
-use Rattle.ris_format.specs.Profile.{is_plain_field}
+use Rattle.ris_format.proofs.Words.{◌∙◌, ◌&&◌, ◌∷◌, sym, ap, refl, list_all, is_plain_field}
 use Rattle.ris_format.proofs.LoopSteps.{passed, decided, none_left}
 use Rattle.ris_format.proofs.profile.are_plain_fields.Goals as goal
 

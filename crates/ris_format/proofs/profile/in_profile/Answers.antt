@@ -1,10 +1,5 @@
-use Rattle.std.proofs.Common.{◌≡◌, ◌∙◌, true, ◌&&◌, map, rules, sym, ap, ap₂}
-use Rattle.std.specs.List.{list_all}
-use Rattle.std.proofs.lemmas.Bool.{and_from, and_left, and_right}
-use Rattle.bib_spec.specs.Text.{is_new_key}
-use Rattle.ris_format.specs.Kinds.{is_entry_type, kind_of_entry}
-use Rattle.ris_format.specs.Mapping.{field_names}
-use Rattle.ris_format.specs.Profile.{are_in_order, is_plain_field}
+use Rattle.ris_format.proofs.Words.{◌≡◌, ◌∙◌, true, ◌&&◌, rules, sym, ap, ap₂, list_all, and_from, and_left, and_right, is_new_key, is_entry_type, kind_of_entry, field_names, are_in_order, is_plain_field}
+use Rattle.std.proofs.Common.{map}
 use Rattle.ris_format.proofs.profile.in_profile.Goals as goal
 
 pub returns-then-not-are_in_order-clause-test : goal.returns-then-not-are_in_order-clause-test

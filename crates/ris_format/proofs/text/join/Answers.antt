@@ -1,8 +1,6 @@
-use Rattle.std.proofs.Common.{◌∙◌, ◌++◌, map, Bor, List, refl}
-use Rattle.std.specs.List.{flat_map}
+use Rattle.ris_format.proofs.Words.{◌∙◌, ◌++◌, Bor, refl, flat_map, Text, made_more, made_all}
+use Rattle.std.proofs.Common.{map, List}
 use Rattle.std.proofs.lemmas.List.{append_assoc}
-use Rattle.bib_spec.specs.Text.{Text}
-use Rattle.bib_names.proofs.LoopSteps.{made_more, made_all}
 use Rattle.ris_format.proofs.LoopSteps.{joined_first}
 use Rattle.ris_format.proofs.text.join.Goals as goal
 

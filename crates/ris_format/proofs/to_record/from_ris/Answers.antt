@@ -1,8 +1,5 @@
-use Rattle.std.proofs.Common.{◌≡◌, ◌∙◌, true, List, rules, sym, ap, ap₂}
-use Rattle.ris_text.specs.declared.records.RisLine.{RisLine}
-use Rattle.ris_format.specs.Kinds.{kind_of_ris}
-use Rattle.ris_format.specs.Lines.{are_neat_lines, read_lines}
-use Rattle.ris_format.specs.Mapping.{record_in}
+use Rattle.ris_format.proofs.Words.{◌≡◌, ◌∙◌, true, rules, sym, ap, ap₂, RisLine, kind_of_ris, are_neat_lines, read_lines, record_in}
+use Rattle.std.proofs.Common.{List}
 use Rattle.ris_format.proofs.LineLaws.{read-neat}
 use Rattle.ris_format.proofs.to_record.from_ris.Goals as goal
 

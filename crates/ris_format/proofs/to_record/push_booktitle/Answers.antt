@@ -1,11 +1,6 @@
-use Rattle.std.proofs.Common.{◌≡◌, ◌∙◌, false, [], ◌∷◌, ◌++◌, codes, sym, ap}
+use Rattle.ris_format.proofs.Words.{◌≡◌, ◌∙◌, false, [], ◌∷◌, ◌++◌, sym, ap, cond-false, on_ok_weaker, Text, is_article, value_at, Fields, field, has_text}
+use Rattle.std.proofs.Common.{codes}
 use Rattle.std.specs.Prelude.{filter}
-use Rattle.std.proofs.lemmas.Bool.{cond-false}
-use Rattle.std.proofs.lemmas.Result.{on_ok_weaker}
-use Rattle.bib_spec.specs.Text.{Text}
-use Rattle.ris_format.specs.Kinds.{is_article}
-use Rattle.ris_format.specs.Lines.{value_at}
-use Rattle.ris_format.specs.Mapping.{Fields, field, has_text}
 use Rattle.ris_format.proofs.to_record.push_booktitle.Goals as goal
 
 pub returns : goal.returns

@@ -1,8 +1,5 @@
-use Rattle.std.proofs.Common.{◌≡◌, ◌∙◌, [], ◌∷◌, List, codes, map, ap}
-use Rattle.std.proofs.lemmas.Result.{on_ok_weaker}
-use Rattle.bib_spec.specs.Text.{Text}
-use Rattle.ris_format.specs.Lines.{values_at}
-use Rattle.ris_format.specs.Keywords.{read_keywords}
+use Rattle.ris_format.proofs.Words.{◌≡◌, ◌∙◌, [], ◌∷◌, ap, on_ok_weaker, Text, values_at, read_keywords}
+use Rattle.std.proofs.Common.{List, codes, map}
 use Rattle.ris_format.proofs.SectionLaws.{field_put}
 use Rattle.ris_format.proofs.to_record.push_keywords.Goals as goal
 

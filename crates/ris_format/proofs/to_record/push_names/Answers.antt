@@ -1,8 +1,5 @@
-use Rattle.std.proofs.Common.{[], ◌∷◌, codes}
-use Rattle.std.proofs.lemmas.Result.{on_ok_weaker}
-use Rattle.ris_format.specs.Lines.{values_at, value_at}
-use Rattle.ris_format.specs.People.{read_people}
-use Rattle.ris_format.specs.Mapping.{field}
+use Rattle.ris_format.proofs.Words.{[], ◌∷◌, on_ok_weaker, values_at, value_at, read_people, field}
+use Rattle.std.proofs.Common.{codes}
 use Rattle.ris_format.proofs.SectionLaws.{field_put, three_fields}
 use Rattle.ris_format.proofs.to_record.push_names.Goals as goal
 

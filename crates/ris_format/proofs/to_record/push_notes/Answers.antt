@@ -1,8 +1,5 @@
-use Rattle.std.proofs.Common.{[], ◌∷◌, codes}
-use Rattle.std.proofs.lemmas.Result.{on_ok_weaker}
-use Rattle.ris_format.specs.Lines.{values_at, value_at}
-use Rattle.ris_format.specs.Keywords.{read_keywords}
-use Rattle.ris_format.specs.Mapping.{field}
+use Rattle.ris_format.proofs.Words.{[], ◌∷◌, on_ok_weaker, values_at, value_at, read_keywords, field}
+use Rattle.std.proofs.Common.{codes}
 use Rattle.ris_format.proofs.SectionLaws.{field_put, five_fields}
 use Rattle.ris_format.proofs.to_record.push_notes.Goals as goal
 

@@ -1,10 +1,5 @@
-use Rattle.std.proofs.Common.{◌≡◌, ◌∙◌, [], ◌∷◌, codes, ap, ap₂}
-use Rattle.std.proofs.lemmas.Result.{on_ok_weaker}
-use Rattle.bib_spec.specs.Text.{Text}
-use Rattle.ris_format.specs.Lines.{value_at}
-use Rattle.ris_format.specs.Dates.{read_year, read_month}
-use Rattle.ris_format.specs.Pages.{read_pages}
-use Rattle.ris_format.specs.Mapping.{field}
+use Rattle.ris_format.proofs.Words.{◌≡◌, ◌∙◌, [], ◌∷◌, ap, ap₂, on_ok_weaker, Text, value_at, read_year, read_month, read_pages, field}
+use Rattle.std.proofs.Common.{codes}
 use Rattle.ris_format.proofs.SectionLaws.{field_put, five_fields}
 use Rattle.ris_format.proofs.to_record.push_numbers.Goals as goal
 

@@ -1,7 +1,5 @@
-use Rattle.std.proofs.Common.{◌≡◌, ◌∙◌, map, ap}
-use Rattle.std.proofs.lemmas.Result.{on_ok_weaker}
-use Rattle.ris_format.specs.Lines.{values_at}
-use Rattle.ris_format.specs.People.{read_people}
+use Rattle.ris_format.proofs.Words.{◌≡◌, ◌∙◌, ap, on_ok_weaker, values_at, read_people}
+use Rattle.std.proofs.Common.{map}
 use Rattle.ris_format.proofs.SectionLaws.{field_put}
 use Rattle.ris_format.proofs.to_record.push_people.Goals as goal
 

@@ -1,6 +1,6 @@
-use Rattle.std.proofs.Common.{◌∙◌, ◌++◌, ap}
+use Rattle.ris_format.proofs.Words.{◌∙◌, ◌++◌, ap, Fields, has_text}
 use Rattle.std.specs.Prelude.{filter}
-use Rattle.ris_format.specs.Mapping.{Fields, has_text, read_names, read_booktitle, read_titles, read_numbers, read_publishers, read_notes}
+use Rattle.ris_format.specs.Mapping.{read_names, read_booktitle, read_titles, read_numbers, read_publishers, read_notes}
 use Rattle.ris_format.proofs.SectionLaws.{six_lists}
 use Rattle.ris_format.proofs.to_record.read_fields.Goals as goal
 

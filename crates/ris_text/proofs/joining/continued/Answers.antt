@@ -1,5 +1,4 @@
-use Rattle.std.proofs.Common.{sym, ap, ◌∙◌}
-use Rattle.ris_text.specs.Code.{continues}
+use Rattle.ris_text.proofs.Words.{sym, ap, ◌∙◌, continues}
 use Rattle.ris_text.proofs.JoinLemmas.{IsJoined-more, IsJoined-stops}
 use Rattle.ris_text.proofs.joining.continued.Goals as goal
 

@@ -1,4 +1,4 @@
-use Rattle.std.proofs.Common.{length, ap, arith}
+use Rattle.ris_text.proofs.Words.{length, ap, arith}
 use Rattle.ris_text.proofs.ToldLemmas.{length-after, IsInside-known}
 use Rattle.ris_text.proofs.reading.read_inner.Goals as goal
 

@@ -1,5 +1,4 @@
-use Rattle.std.proofs.Common.{◌+◌, ◌≤◌, length}
-use Rattle.ris_text.specs.Rest.{rest_of}
+use Rattle.ris_text.proofs.Words.{◌+◌, ◌≤◌, length, rest_of}
 use Rattle.ris_text.proofs.ToldLemmas.{IsOutside}
 use Rattle.ris_text.proofs.reading.read_next.Given as goal
 

@@ -1,5 +1,5 @@
-use Rattle.std.proofs.Common.{◌≡◌, ◌≢◌, length, sym, ap, ◌∙◌, arith, inl, inr, ⊎_elim}
-use Rattle.std.proofs.lemmas.Bool.{eqb-true, eqb-false}
+use Rattle.ris_text.proofs.Words.{◌≡◌, ◌≢◌, length, sym, ap, ◌∙◌, arith, inl, inr, eqb-true, eqb-false}
+use Rattle.std.proofs.Common.{⊎_elim}
 use Rattle.std.proofs.lemmas.Result.{err_from_is_err_and}
 use Rattle.ris_text.specs.Code.{seen}
 use Rattle.ris_text.proofs.ToldLemmas.{length-after, record_typed, record_untyped, record_broken}

@@ -1,4 +1,4 @@
-use Rattle.ris_text.specs.Rest.{IsLeft}
+use Rattle.ris_text.proofs.Words.{IsLeft}
 use Rattle.ris_text.proofs.reading.read_ris.Given as goal
 
 abbrev pub invariant-records : goal.invariant-records

@@ -1,6 +1,4 @@
-use Rattle.std.proofs.Common.{List, subst, sym}
-use Rattle.bib_spec.specs.Text.{Text}
-use Rattle.bib_scan.specs.View.{Field}
+use Rattle.bib_answers.proofs.Words.{List, subst, sym, Text, Field}
 use Rattle.bib_answers.specs.Recurring.{names_of}
 use Rattle.bib_answers.proofs.Recurrences.{AreCounting, counting_more, told_counted}
 use Rattle.bib_answers.proofs.name_filter.NameFilter.of.Goals as goal

@@ -1,4 +1,4 @@
-use Rattle.std.proofs.Common.{length}
+use Rattle.bib_answers.proofs.Words.{length}
 use Rattle.bib_answers.specs.Recurring.{names_of}
 use Rattle.bib_answers.proofs.Recurrences.{AreCounting}
 use Rattle.bib_answers.proofs.name_filter.NameFilter.of.Given as goal

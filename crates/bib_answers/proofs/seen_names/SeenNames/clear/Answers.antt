@@ -1,4 +1,4 @@
-use Rattle.std.proofs.Common.{◌≡◌, [], refl, length, rules}
+use Rattle.bib_answers.proofs.Words.{◌≡◌, [], refl, length, rules}
 use Rattle.std.proofs.lemmas.List.{nil_from_length}
 use Rattle.bib_answers.proofs.Recurrences.{told_none}
 use Rattle.bib_answers.proofs.seen_names.SeenNames.clear.Goals as goal

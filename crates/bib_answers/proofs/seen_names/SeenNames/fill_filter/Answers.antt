@@ -1,6 +1,5 @@
-use Rattle.std.proofs.Common.{[], Some, List, rules, sym, subst}
-use Rattle.bib_scan.specs.View.{Field}
-use Rattle.bib_answers.specs.Recurring.{AreTold, names_of}
+use Rattle.bib_answers.proofs.Words.{[], Some, List, rules, sym, subst, Field, AreTold}
+use Rattle.bib_answers.specs.Recurring.{names_of}
 use Rattle.bib_answers.proofs.Recurrences.{told_at}
 use Rattle.bib_answers.proofs.seen_names.SeenNames.fill_filter.Goals as goal
 

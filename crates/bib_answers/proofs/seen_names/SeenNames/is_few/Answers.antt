@@ -1,8 +1,7 @@
-use Rattle.std.proofs.Common.{rules, tests, ◌∙◌, ℕ, List, Bor, ap}
-use Rattle.std.specs.List.{list_any}
+use Rattle.bib_answers.proofs.Words.{rules, ◌∙◌, ℕ, List, Bor, ap, list_any, same}
+use Rattle.std.proofs.Common.{tests}
 use Rattle.std.proofs.lemmas.Iterator.{YieldsList-from_slice}
 use Rattle.std.proofs.lemmas.Iterator.Search.{any_from_yields_List}
-use Rattle.bib_spec.specs.Text.{same}
 use Rattle.bib_answers.proofs.seen_names.SeenNames.is_few.Goals as goal
 
 pub returns : goal.returns

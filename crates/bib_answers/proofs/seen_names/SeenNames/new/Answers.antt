@@ -1,4 +1,4 @@
-use Rattle.std.proofs.Common.{[], refl, rules}
+use Rattle.bib_answers.proofs.Words.{[], refl, rules}
 use Rattle.bib_answers.proofs.Recurrences.{told_none}
 use Rattle.bib_answers.proofs.seen_names.SeenNames.new.Goals as goal
 

@@ -1,7 +1,4 @@
-use Rattle.std.proofs.Common.{◌≡◌, sym, ap, ◌∙◌, subst}
-use Rattle.std.specs.Option.{option_copied}
-use Rattle.bib_spec.specs.Text.{folded}
-use Rattle.bib_definitions.specs.ByName.{definitions_of, each_held, Ascends}
+use Rattle.bib_definitions.proofs.Words.{◌≡◌, sym, ap, ◌∙◌, subst, option_copied, folded, definitions_of, each_held, Ascends}
 use Rattle.bib_definitions.proofs.DefinedNames.{none_of}
 use Rattle.bib_definitions.proofs.HeldLists.{of-each, none-each}
 use Rattle.bib_definitions.proofs.by_name.ByName.of.Goals as goal

@@ -1,5 +1,4 @@
-use Rattle.bib_spec.specs.Text.{folded}
-use Rattle.bib_definitions.specs.ByName.{definitions_of, each_held, with_definition, Ascends}
+use Rattle.bib_definitions.proofs.Words.{folded, definitions_of, each_held, with_definition, Ascends}
 use Rattle.bib_definitions.proofs.HeldLists.{tried-each}
 use Rattle.bib_definitions.proofs.PlacedDefinitions.{ascends_with}
 use Rattle.bib_definitions.proofs.by_name.ByName.put.Goals as goal

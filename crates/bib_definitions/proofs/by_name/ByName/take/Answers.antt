@@ -1,5 +1,4 @@
-use Rattle.bib_spec.specs.Text.{folded}
-use Rattle.bib_definitions.specs.ByName.{definitions_of, each_held, without_label, Ascends}
+use Rattle.bib_definitions.proofs.Words.{folded, definitions_of, each_held, without_label, Ascends}
 use Rattle.bib_definitions.proofs.DefinedNames.{given_all}
 use Rattle.bib_definitions.proofs.PlacedDefinitions.{ascends_without}
 use Rattle.bib_definitions.proofs.by_name.ByName.take.Goals as goal

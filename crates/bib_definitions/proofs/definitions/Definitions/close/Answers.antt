@@ -1,5 +1,4 @@
-use Rattle.std.proofs.Common.{sym, subst}
-use Rattle.bib_definitions.specs.Definitions.{Known, AreDefinitionsOf}
+use Rattle.bib_definitions.proofs.Words.{sym, subst, Known, AreDefinitionsOf}
 use Rattle.bib_definitions.proofs.DefinitionTables.{definitions_go}
 use Rattle.bib_definitions.proofs.definitions.Definitions.close.Goals as goal
 

@@ -1,6 +1,4 @@
-use Rattle.std.proofs.Common.{◌∙◌, length, sym, ap, subst}
-use Rattle.bib_definitions.specs.Definitions.{Known, AreDefinitionsOf}
-use Rattle.bib_definitions.specs.declared.held.Definition.{Definition}
+use Rattle.bib_definitions.proofs.Words.{◌∙◌, length, sym, ap, subst, Known, AreDefinitionsOf, Definition}
 use Rattle.bib_definitions.proofs.FirstDefinitions.{counted-named}
 use Rattle.bib_definitions.proofs.definitions.Definitions.count.Goals as goal
 

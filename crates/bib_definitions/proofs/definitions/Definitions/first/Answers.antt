@@ -1,6 +1,4 @@
-use Rattle.std.proofs.Common.{◌≡◌, ◌<◌, ◌∙◌, ℕ, Some, length, slice_get, sym, ap, subst, List}
-use Rattle.bib_definitions.specs.declared.held.Definition.{Definition}
-use Rattle.bib_definitions.specs.Definitions.{Known, AreDefinitionsOf}
+use Rattle.bib_definitions.proofs.Words.{◌≡◌, ◌<◌, ◌∙◌, ℕ, Some, length, slice_get, sym, ap, subst, List, Definition, Known, AreDefinitionsOf}
 use Rattle.bib_definitions.proofs.FirstDefinitions.{first-within, first-some, first-none}
 use Rattle.bib_definitions.proofs.definitions.Definitions.first.Goals as goal
 

@@ -1,7 +1,5 @@
-use Rattle.std.proofs.Common.{◌≡◌, ◌∙◌, ℕ, List, Option, Some, IfSome, insert, length, sym, ap, ap₂, subst, arith}
-use Rattle.bib_definitions.specs.declared.held.Definition.{Definition}
-use Rattle.bib_definitions.specs.ByName.{Defined}
-use Rattle.bib_definitions.specs.Definitions.{Known, AreDefinitionsOf}
+use Rattle.bib_definitions.proofs.Words.{◌≡◌, ◌∙◌, ℕ, List, Option, Some, insert, length, sym, ap, ap₂, subst, arith, Definition, Defined, Known, AreDefinitionsOf}
+use Rattle.std.proofs.Common.{IfSome}
 use Rattle.bib_definitions.proofs.DefinitionTables.{label_back, definition_comes}
 use Rattle.bib_definitions.proofs.LongestTexts.{long_with}
 use Rattle.bib_definitions.proofs.definitions.Definitions.insert.Goals as goal

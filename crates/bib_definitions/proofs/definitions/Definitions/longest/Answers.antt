@@ -1,6 +1,4 @@
-use Rattle.std.proofs.Common.{subst}
-use Rattle.bib_numbers.specs.Numbers.{rank_in}
-use Rattle.bib_definitions.specs.Definitions.{Known, label_at, texts_at, AreAtMost}
+use Rattle.bib_definitions.proofs.Words.{subst, rank_in, Known, label_at, texts_at, AreAtMost}
 use Rattle.bib_definitions.proofs.LongestTexts.{at_most}
 use Rattle.bib_definitions.proofs.definitions.Definitions.longest.Goals as goal
 

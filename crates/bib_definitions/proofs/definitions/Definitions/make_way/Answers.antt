@@ -1,5 +1,4 @@
-use Rattle.std.proofs.Common.{sym, subst}
-use Rattle.bib_definitions.specs.Definitions.{Known, AreDefinitionsOf}
+use Rattle.bib_definitions.proofs.Words.{sym, subst, Known, AreDefinitionsOf}
 use Rattle.bib_definitions.proofs.DefinitionTables.{definitions_come}
 use Rattle.bib_definitions.proofs.definitions.Definitions.make_way.Goals as goal
 

@@ -1,4 +1,4 @@
-use Rattle.bib_definitions.specs.Definitions.{Known}
+use Rattle.bib_definitions.proofs.Words.{Known}
 use Rattle.bib_definitions.proofs.DefinitionTables.{none_listed}
 use Rattle.bib_definitions.proofs.LongestTexts.{long_none}
 use Rattle.bib_definitions.proofs.definitions.Definitions.new.Goals as goal

@@ -1,5 +1,4 @@
-use Rattle.std.proofs.Common.{sym, subst, arith}
-use Rattle.bib_definitions.specs.Definitions.{Known, AreDefinitionsOf}
+use Rattle.bib_definitions.proofs.Words.{sym, subst, arith, Known, AreDefinitionsOf}
 use Rattle.bib_definitions.proofs.DefinitionTables.{definition_goes, definition_numbered, definition_labelled}
 use Rattle.bib_definitions.proofs.LongestTexts.{long_without}
 use Rattle.bib_definitions.proofs.definitions.Definitions.remove.Goals as goal

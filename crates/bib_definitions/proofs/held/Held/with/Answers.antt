@@ -1,9 +1,4 @@
-use Rattle.std.proofs.Common.{◌≡◌, ◌≤◌, ◌∙◌, length, refl, nat_lt, true, false, List, sym, ap, subst}
-use Rattle.std.specs.List.Sorted.{IsPartitionPoint}
-use Rattle.bib_definitions.specs.declared.held.Definition.{Definition}
-use Rattle.bib_definitions.specs.declared.held.Held.{Held}
-use Rattle.bib_definitions.specs.ByName.{with_definition}
-use Rattle.bib_definitions.specs.Held.{definitions_held}
+use Rattle.bib_definitions.proofs.Words.{◌≡◌, ◌≤◌, ◌∙◌, length, refl, nat_lt, true, false, List, sym, ap, subst, IsPartitionPoint, Definition, Held, with_definition, definitions_held}
 use Rattle.bib_definitions.proofs.PlacedDefinitions.{with_at}
 use Rattle.bib_definitions.proofs.held.Held.with.Goals as goal
 

@@ -1,6 +1,4 @@
-use Rattle.std.proofs.Common.{◌≡◌, ◌++◌}
-use Rattle.std.specs.List.{flat_map, between}
-use Rattle.bib_items.specs.Items.{kept_bytes}
+use Rattle.bib_items.proofs.Words.{◌≡◌, ◌++◌, flat_map, between, kept_bytes}
 use Rattle.bib_items.proofs.list.ItemList.append_bytes.Given as goal
 
 abbrev pub invariant-append : goal.invariant-append

@@ -1,9 +1,4 @@
-use Rattle.std.proofs.Common.{ℕ, List, subst, sym}
-use Rattle.std.specs.Prelude.{Err}
-use Rattle.std.specs.List.Sorted.{IsBinarySearchResult}
-use Rattle.std.specs.Ordering.{nat_cmp}
-use Rattle.bib_items.specs.Slots.{AreMarks}
-use Rattle.bib_items.specs.PartMarks.{KeepsMarks}
+use Rattle.bib_items.proofs.Words.{ℕ, List, subst, sym, Err, IsBinarySearchResult, nat_cmp, AreMarks, KeepsMarks}
 use Rattle.bib_items.proofs.PartMarks.{keeps-insert, marks-insert, marks-seen}
 use Rattle.bib_items.proofs.marking.Marks.add.Goals as goal
 

@@ -1,5 +1,4 @@
-use Rattle.std.proofs.Common.{length}
-use Rattle.bib_items.specs.PartMarks.{KeepsMarks}
+use Rattle.bib_items.proofs.Words.{length, KeepsMarks}
 use Rattle.bib_items.proofs.PartMarks.{HaveFieldsSoFar}
 use Rattle.bib_items.proofs.marking.Marks.add_fields.Given as goal
 

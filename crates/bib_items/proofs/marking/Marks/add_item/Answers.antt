@@ -1,4 +1,4 @@
-use Rattle.std.proofs.lemmas.Result.{on_ok_weaker}
+use Rattle.bib_items.proofs.Words.{on_ok_weaker}
 use Rattle.bib_items.proofs.PartMarks.{item-marked}
 use Rattle.bib_items.proofs.marking.Marks.add_item.Goals as goal
 

@@ -1,4 +1,4 @@
-use Rattle.std.proofs.Common.{sym, ◌∙◌, ap, arith}
+use Rattle.bib_items.proofs.Words.{sym, ◌∙◌, ap, arith}
 use Rattle.bib_scan.specs.ValueParts.{spans_of}
 use Rattle.bib_scan.proofs.TakenApart.{one_value}
 use Rattle.bib_scan.specs.PartView.{part_view}

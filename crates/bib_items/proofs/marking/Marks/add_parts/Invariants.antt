@@ -1,4 +1,4 @@
-use Rattle.bib_items.specs.PartMarks.{KeepsMarks}
+use Rattle.bib_items.proofs.Words.{KeepsMarks}
 use Rattle.bib_items.proofs.PartMarks.{HaveFirst}
 use Rattle.bib_items.proofs.marking.Marks.add_parts.Given as goal
 

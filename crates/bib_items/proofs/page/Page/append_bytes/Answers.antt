@@ -1,6 +1,4 @@
-use Rattle.std.proofs.Common.{◌≡◌, ◌<◌, ◌++◌, ◌∙◌, List, ℕ, length, subst, ap, arith}
-use Rattle.std.specs.List.{flat_map, between}
-use Rattle.bib_items.specs.Items.{kept_bytes}
+use Rattle.bib_items.proofs.Words.{◌≡◌, ◌<◌, ◌++◌, ◌∙◌, List, ℕ, length, subst, ap, arith, flat_map, between, kept_bytes}
 use Rattle.bib_items.proofs.Appended.{appended_none, appended_more}
 use Rattle.bib_items.proofs.page.Page.append_bytes.Goals as goal
 

@@ -1,6 +1,4 @@
-use Rattle.std.proofs.Common.{◌<◌, length, arith}
-use Rattle.bib_items.specs.declared.list.Item.{Item}
-use Rattle.bib_items.specs.Seeking.{LacksPart}
+use Rattle.bib_items.proofs.Words.{◌<◌, length, arith, Item, LacksPart}
 use Rattle.bib_items.proofs.Passed.{lack-more}
 use Rattle.bib_items.proofs.page.Page.look_from.Goals as goal
 

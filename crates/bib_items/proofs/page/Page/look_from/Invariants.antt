@@ -1,5 +1,4 @@
-use Rattle.std.specs.List.{between}
-use Rattle.bib_items.specs.Seeking.{LackPart}
+use Rattle.bib_items.proofs.Words.{between, LackPart}
 use Rattle.bib_items.proofs.page.Page.look_from.Given as goal
 
 abbrev pub invariant-pass : goal.invariant-pass

@@ -1,4 +1,4 @@
-use Rattle.std.proofs.Common.{Some, arith}
+use Rattle.bib_items.proofs.Words.{Some, arith}
 use Rattle.bib_items.proofs.Covered.{covered-first, covered-next, covered-all}
 use Rattle.bib_items.proofs.page.Page.marked.Goals as goal
 

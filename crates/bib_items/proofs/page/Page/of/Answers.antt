@@ -1,10 +1,4 @@
-use Rattle.std.proofs.Common.{◌≡◌, [], ◌∙◌, ◌+◌, ◌<◌, ◌-◌, ◌++◌, List, length, take, drop, refl, subst, subst₂, sym, ap, arith}
-use Rattle.bib_spec.specs.Text.{Text}
-use Rattle.bib_spec.specs.Reading.{Reads}
-use Rattle.bib_items.specs.declared.span.Span.{Span}
-use Rattle.bib_items.specs.Items.{all_stored}
-use Rattle.bib_items.specs.PageOwn.{PageOwn}
-use Rattle.bib_items.specs.Spans.{items_in, LieInEither}
+use Rattle.bib_items.proofs.Words.{◌≡◌, [], ◌∙◌, ◌+◌, ◌<◌, ◌-◌, ◌++◌, List, length, take, drop, refl, subst, subst₂, sym, ap, arith, Text, Reads, Span, all_stored, PageOwn, items_in, LieInEither}
 use Rattle.bib_items.proofs.Covered.{laid-only}
 use Rattle.bib_items.proofs.Gathered.{AreSpansOf, spans_none, spans_more}
 use Rattle.bib_items.proofs.page.Page.of.Goals as goal

@@ -1,7 +1,4 @@
-use Rattle.std.proofs.Common.{◌≡◌, ◌≢◌, ℕ, List, [], ◌++◌, ◌∙◌, Option, length, ap, subst, subst₂, sym, arith}
-use Rattle.bib_spec.specs.Text.{Text}
-use Rattle.bib_items.specs.Spans.{items_in, LieInEither, AreLaid}
-use Rattle.bib_items.specs.PartMarks.{AreCovered}
+use Rattle.bib_items.proofs.Words.{◌≡◌, ◌≢◌, ℕ, List, [], ◌++◌, ◌∙◌, Option, length, ap, subst, subst₂, sym, arith, Text, items_in, LieInEither, AreLaid, AreCovered}
 use Rattle.bib_items.proofs.ItemsIn.{same_weight}
 use Rattle.bib_items.proofs.page.Page.tidy.Goals as goal
 

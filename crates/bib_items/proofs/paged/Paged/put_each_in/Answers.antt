@@ -1,7 +1,4 @@
-use Rattle.std.proofs.Common.{◌≡◌, ◌+◌, ◌-◌, ◌<◌, ℕ, List, length, insert, subst, sym, ap, ◌∙◌, arith}
-use Rattle.bib_items.specs.declared.list.Item.{Item}
-use Rattle.bib_items.specs.Items.{item, without_range}
-use Rattle.bib_pages.specs.Pages.{joined}
+use Rattle.bib_items.proofs.Words.{◌≡◌, ◌+◌, ◌-◌, ◌<◌, ℕ, List, length, insert, subst, sym, ap, ◌∙◌, arith, Item, item, without_range, joined}
 use Rattle.bib_items.proofs.Filled.{IsBegun, begun_start, begun_more, begun_len, begun_back, begun_all}
 use Rattle.bib_items.proofs.paged.Paged.put_each_in.Goals as goal
 

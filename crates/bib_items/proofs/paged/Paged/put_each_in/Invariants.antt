@@ -1,4 +1,4 @@
-use Rattle.bib_pages.specs.Pages.{joined}
+use Rattle.bib_items.proofs.Words.{joined}
 use Rattle.bib_items.proofs.Filled.{IsBegun}
 use Rattle.bib_items.proofs.paged.Paged.put_each_in.Given as goal
 

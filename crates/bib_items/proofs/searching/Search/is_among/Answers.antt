@@ -1,7 +1,5 @@
-use Rattle.std.proofs.Common.{◌∙◌, sym, ap, subst}
-use Rattle.std.specs.Prelude.{Contains}
-use Rattle.std.proofs.lemmas.Option.{none-some, same_Some}
-use Rattle.bib_items.specs.PartMarks.{sought_mark}
+use Rattle.bib_items.proofs.Words.{◌∙◌, sym, ap, subst, Contains, same_Some, sought_mark}
+use Rattle.std.proofs.lemmas.Option.{none-some}
 use Rattle.bib_items.proofs.PartMarks.{item-unmet}
 use Rattle.bib_items.proofs.searching.Search.is_among.Goals as goal
 

@@ -1,5 +1,4 @@
-use Rattle.std.proofs.Common.{◌∙◌, sym, ap}
-use Rattle.bib_items.specs.Glancing.{head_of}
+use Rattle.bib_items.proofs.Words.{◌∙◌, sym, ap, head_of}
 use Rattle.bib_items.proofs.Glances.{word-lacks, nothing-lacks}
 use Rattle.bib_items.proofs.searching.Search.passes.Goals as goal
 

@@ -1,9 +1,4 @@
-use Rattle.std.proofs.Common.{◌≡◌, ◌-◌, [], ◌∷◌, ◌++◌, reverse, rules, min, ◌^◌, sym, subst, ap, ◌∙◌}
-use Rattle.bib_spec.specs.Pieces.{applied}
-use Rattle.history_spec.specs.Steps.{KeptSteps, IsAllowed, IsFull, Adds, step_text_len}
-use Rattle.bib_journal.specs.Kept.{kept}
-use Rattle.bib_journal.specs.OpenSteps.{SessionState, IsOpenIn, new_step, MakesSteps, LacksRoom}
-use Rattle.bib_journal.specs.declared.open_step.OpenStep.TheVariants.{LastStep}
+use Rattle.bib_journal.proofs.Words.{◌≡◌, ◌-◌, [], ◌∷◌, ◌++◌, reverse, rules, min, ◌^◌, sym, subst, ap, ◌∙◌, applied, KeptSteps, IsAllowed, IsFull, Adds, step_text_len, kept, SessionState, IsOpenIn, new_step, MakesSteps, LacksRoom, LastStep}
 use Rattle.bib_journal.proofs.Moves.{none_known, steps_move, made_open, added_makes, added_room, has_room, counted_on}
 use Rattle.bib_journal.proofs.session.Session.add.Given.{Over}
 use Rattle.bib_journal.proofs.session.Session.add.Goals as goal
@@ -12,7 +7,7 @@ abbrev old_steps : (g : Over) → goal.After-forget g → KeptSteps
 old_steps g c = kept c.self.inside.past.items c.self.inside.database (reverse c.self.inside.undone.items)
 
 abbrev new_steps : (g : Over) → goal.After-forget g → KeptSteps
-new_steps g c = kept c.push_within_capacity.new.items.items c.go_on.new.db (reverse c.forget.new.steps.items)
+new_steps g c = kept c.push_reserved.new.self.items c.go_on.new.db (reverse c.forget.new.steps.items)
 
 other : (g : Over) (c : goal.After-forget g) → c.self.inside.current ≡ LastStep → ⊥
 other g c = λ e. c.requires.none (sym (ap (λ (s : SessionState). s.current) c.self.view_is) ∙ e)
@@ -23,8 +18,8 @@ allowed g c = subst (λ (s : SessionState). IsAllowed c.args.pieces s.steps.pres
 text_is : (g : Over) (c : goal.After-forget g) → c.step_text_len-text_len.result ≡ min (step_text_len (new_step c.self.inside.current c.args.pieces)) (2 ^ 64 - 1)
 text_is g c = cc (c.step_text_len-text_len.ensures, c.next_label.ensures, c.as_slice.ensures)
 
-pushed : (g : Over) (c : goal.After-forget g) → c.push_within_capacity.new.items.items ≡ c.self.inside.past.items ++ new_step c.self.inside.current c.args.pieces ∷ []
-pushed g c = cc (c.push_within_capacity.ensures.items, c.in_ok-reserve.ensures.items, c.take_label-label.ensures.label)
+pushed : (g : Over) (c : goal.After-forget g) → c.push_reserved.new.self.items ≡ c.self.inside.past.items ++ new_step c.self.inside.current c.args.pieces ∷ []
+pushed g c = cc (c.push_reserved.ensures.items, c.in_ok-reserve.ensures.items, c.take_label-label.ensures.label)
 
 makes : (g : Over) (c : goal.After-forget g) → MakesSteps c.self.inside.current c.args.pieces (old_steps g c) (new_steps g c)
 makes g c =
@@ -42,7 +37,7 @@ pub invariant_of-self-2 : goal.invariant_of-self-2
 invariant_of-self-2 g c = record {
   sound = (steps_move c.self.inside.current c.args.pieces (old_steps g c) (new_steps g c) c.self.invariant.sound c.self.invariant.current (allowed g c) (room g c) (makes g c)).0;
   current = subst (IsOpenIn (new_steps g c)) (sym c.take_label-label.ensures.current) (made_open c.self.inside.current c.args.pieces (old_steps g c) (new_steps g c) c.self.invariant.current (makes g c));
-  counted = counted_on c.self.inside.past.items c.push_within_capacity.new.items.items (new_step c.self.inside.current c.args.pieces) c.self.inside.past_len c.step_text_len-text_len.result c.saturating_add-len.result c.self.invariant.counted (text_is g c) c.saturating_add-len.ensures (search rules) (pushed g c);
+  counted = counted_on c.self.inside.past.items c.push_reserved.new.self.items (new_step c.self.inside.current c.args.pieces) c.self.inside.past_len c.step_text_len-text_len.result c.saturating_add-len.result c.self.invariant.counted (text_is g c) c.saturating_add-len.ensures (search rules) (pushed g c);
   placed = none_known _ _ _ c.clear.ensures.items;
 }
 

@@ -1,9 +1,4 @@
-use Rattle.std.proofs.Common.{subst}
-use Rattle.std.specs.Prelude.{OnOk}
-use Rattle.history_spec.specs.Steps.{IsSound, IsAllowed}
-use Rattle.bib_edit.specs.Planning.{IsAllowedEdit, ArePiecesOf}
-use Rattle.bib_journal.specs.OpenSteps.{SessionState, IsOpenIn}
-use Rattle.bib_journal.specs.Session.{MakesEdit}
+use Rattle.bib_journal.proofs.Words.{subst, OnOk, IsSound, IsAllowed, IsAllowedEdit, ArePiecesOf, SessionState, IsOpenIn, MakesEdit}
 use Rattle.bib_journal.proofs.Moves.{planned_leads, made_edit, where_accepted}
 use Rattle.bib_journal.proofs.session.Session.edit.Goals as goal
 

@@ -1,11 +1,5 @@
-use Rattle.std.proofs.Common.{rules, ◌≡◌, ◌+◌, ◌-◌, ◌≤◌, inr, List, [], ◌∷◌, ◌++◌, reverse, sum_by, refl, sym, subst, ap, ◌∙◌, arith}
-use Rattle.bib_spec.specs.Pieces.{Piece, applied}
-use Rattle.history_spec.specs.Steps.{Step, KeptSteps, with_edit, IsAllowed, LeadTo, step_text_len}
-use Rattle.history_spec.proofs.StepLemmas.{lead_to_pop}
-use Rattle.bib_journal.specs.Kept.{kept}
-use Rattle.bib_journal.specs.OpenSteps.{SessionState, IsOpenIn, JoinsLast, MakesSteps, LacksRoom}
-use Rattle.bib_journal.specs.declared.open_step.OpenStep.{OpenStep}
-use Rattle.bib_journal.specs.declared.open_step.OpenStep.TheVariants.{LastStep}
+use Rattle.bib_journal.proofs.Words.{rules, ◌≡◌, ◌+◌, ◌-◌, ◌≤◌, inr, List, [], ◌∷◌, ◌++◌, reverse, sum_by, refl, sym, subst, ap, ◌∙◌, arith, Piece, applied, Step, KeptSteps, with_edit, IsAllowed, LeadTo, step_text_len, lead_to_pop, kept, SessionState, IsOpenIn, JoinsLast, MakesSteps, LacksRoom}
+use Rattle.bib_journal.proofs.Words.{OpenStep, LastStep}
 use Rattle.bib_journal.proofs.Moves.{steps_move, made_open, joined_makes, joined_room, counted_split, last_known, last_knows}
 use Rattle.bib_journal.proofs.session.Session.join.Given.{Over}
 use Rattle.bib_journal.proofs.session.Session.join.Goals as goal
@@ -31,7 +25,7 @@ abbrev old_steps : (g : Over) → goal.After-drop-pieces-inside-2 g → KeptStep
 old_steps g c = kept c.self.inside.past.items c.self.inside.database (reverse c.self.inside.undone.items)
 
 abbrev new_steps : (g : Over) → goal.After-drop-pieces-inside-2 g → KeptSteps
-new_steps g c = kept c.push_within_capacity.new.items.items c.grow-grown.new.db (reverse c.self.inside.undone.items)
+new_steps g c = kept c.push_reserved.new.self.items c.grow-grown.new.db (reverse c.self.inside.undone.items)
 
 last : (g : Over) (c : goal.After-drop-pieces-inside-2 g) → c.self.inside.current ≡ LastStep
 last g c = ap (λ (s : SessionState). s.current) c.self.view_is ∙ c.requires.last
@@ -43,8 +37,8 @@ allowed g c = subst (λ (s : SessionState). IsAllowed c.args.pieces s.steps.pres
 grown : (g : Over) (c : goal.After-drop-pieces-inside-2 g) → c.grow-grown.new.step ≡ with_edit c.in-Some.step c.args.pieces
 grown g c = c.in_ok-self-inside.ensures.grown ∙ ap (with_edit c.in-Some.step) c.as_slice.ensures
 
-pushed : (g : Over) (c : goal.After-drop-pieces-inside-2 g) → c.push_within_capacity.new.items.items ≡ c.pop.new.self.items ++ with_edit c.in-Some.step c.args.pieces ∷ []
-pushed g c = c.push_within_capacity.ensures.items ∙ ap (λ (s : Step). c.pop.new.self.items ++ s ∷ []) (grown g c)
+pushed : (g : Over) (c : goal.After-drop-pieces-inside-2 g) → c.push_reserved.new.self.items ≡ c.pop.new.self.items ++ with_edit c.in-Some.step c.args.pieces ∷ []
+pushed g c = c.push_reserved.ensures.items ∙ ap (λ (s : Step). c.pop.new.self.items ++ s ∷ []) (grown g c)
 
 -- the length of the texts, with the last step apart
 split : (g : Over) (c : goal.After-drop-pieces-inside-2 g) → c.self.inside.past_len ≡ sum_by step_text_len c.pop.new.self.items + step_text_len c.in-Some.step
@@ -56,7 +50,7 @@ len_is g c =
 
 makes : (g : Over) (c : goal.After-drop-pieces-inside-2 g) → JoinsLast c.args.pieces (old_steps g c) (new_steps g c)
 makes g c =
-    joined_makes c.self.inside.past.items c.push_within_capacity.new.items.items c.pop.new.self.items (reverse c.self.inside.undone.items) c.in-Some.step (with_edit c.in-Some.step c.args.pieces)
+    joined_makes c.self.inside.past.items c.push_reserved.new.self.items c.pop.new.self.items (reverse c.self.inside.undone.items) c.in-Some.step (with_edit c.in-Some.step c.args.pieces)
     c.self.inside.database c.grow-grown.new.db c.args.pieces c.in-Some.ensures.items (pushed g c) refl
     (c.in_ok-self-inside.ensures.made ∙ ap (λ (ps : List Piece). applied ps c.self.inside.database) c.as_slice.ensures)
 
@@ -73,8 +67,8 @@ invariant_of-self-2 g c =
     record {
       sound = (steps_move LastStep c.args.pieces (old_steps g c) (new_steps g c) c.self.invariant.sound was (allowed g c) (room g c) (makes g c)).0;
       current = subst (IsOpenIn (new_steps g c)) (sym (last g c)) (made_open LastStep c.args.pieces (old_steps g c) (new_steps g c) was (makes g c));
-      counted = len_is g c ∙ sym (counted_split c.push_within_capacity.new.items.items c.pop.new.self.items (with_edit c.in-Some.step c.args.pieces) _ refl (pushed g c));
-      placed = last_knows c.self.inside.current c.push_within_capacity.new.items.items c.pop.new.self.items c.grow-grown.new.step c.grow-grown.new.ends.items (last g c) (search rules)
+      counted = len_is g c ∙ sym (counted_split c.push_reserved.new.self.items c.pop.new.self.items (with_edit c.in-Some.step c.args.pieces) _ refl (pushed g c));
+      placed = last_knows c.self.inside.current c.push_reserved.new.self.items c.pop.new.self.items c.grow-grown.new.step c.grow-grown.new.ends.items (last g c) (search rules)
           (inr c.in_ok-self-inside.ensures.ends);
     }
 

@@ -1,9 +1,7 @@
-use Rattle.std.proofs.Common.{◌≡◌, ◌∙◌, ℕ, List, [], ◌∷◌, ◌++◌, ◌+◌, ◌-◌, Option, IsSome, sym, ap, arith, append_assoc, append-nil}
+use Rattle.bib_keys.proofs.Words.{◌≡◌, ◌∙◌, ℕ, List, [], ◌∷◌, ◌++◌, ◌+◌, ◌-◌, Option, sym, ap, arith, append_assoc, append-nil, entries_of, parent, lineage, AreKnown, kept_of}
+use Rattle.std.proofs.Common.{IsSome}
 use Rattle.std.proofs.lemmas.List.Elements.{All-nil, All-push, All-same, All-weaker}
-use Rattle.bib_spec.specs.Records.{entries_of, parent}
-use Rattle.bib_spec.specs.Lineages.{lineage}
 use Rattle.bib_spec.proofs.Lineages.{lineage_more, lineage_none, lineage_done}
-use Rattle.bib_keys.specs.Parents.{AreKnown, kept_of}
 use Rattle.bib_keys.proofs.label_bases.Parents.find_line.Goals as goal
 
 -- with one more that is known, all of the line are

@@ -1,8 +1,5 @@
-use Rattle.std.proofs.Common.{◌≡◌, ◌-◌, ◌++◌}
-use Rattle.bib_spec.specs.Records.{entries_of, parent}
-use Rattle.bib_spec.specs.Lineages.{lineage}
-use Rattle.bib_store.specs.Meaning.{OfReading, IsEntryNumber}
-use Rattle.bib_keys.specs.Parents.{AreParents, AreKnown}
+use Rattle.bib_keys.proofs.Words.{◌≡◌, ◌-◌, ◌++◌, entries_of, parent, lineage, OfReading, AreParents, AreKnown}
+use Rattle.bib_store.specs.Readings.{IsEntryNumber}
 use Rattle.bib_keys.proofs.label_bases.Parents.find_line.Given as goal
 
 abbrev pub invariant-find : goal.invariant-find

@@ -1,8 +1,5 @@
-use Rattle.std.proofs.Common.{◌∙◌, ◌<◌, ℕ, List, length, ap, ap₂, sym, subst, get_or}
+use Rattle.bib_keys.proofs.Words.{◌∙◌, ◌<◌, ℕ, List, length, ap, ap₂, sym, subst, get_or, entries_of, parts_of, no_parts, parts_with, kept_of, label_fields, with_parent}
 use Rattle.std.proofs.lemmas.List.Sums.{fold_more}
-use Rattle.bib_spec.specs.Records.{entries_of}
-use Rattle.bib_names.specs.LabelParts.{parts_of, no_parts, parts_with}
-use Rattle.bib_keys.specs.Parents.{kept_of, label_fields, with_parent}
 use Rattle.bib_keys.proofs.KnownParents.{kept_told}
 use Rattle.bib_keys.proofs.label_bases.Parents.inherited.Goals as goal
 

@@ -1,8 +1,5 @@
-use Rattle.std.proofs.Common.{◌≡◌, take}
-use Rattle.bib_spec.specs.Text.{Text}
-use Rattle.bib_spec.specs.Records.{entries_of}
-use Rattle.bib_store.specs.Meaning.{OfReading}
-use Rattle.bib_keys.specs.Parents.{AreParents, parts_along}
+use Rattle.bib_keys.proofs.Words.{◌≡◌, Text, entries_of, OfReading, AreParents, parts_along}
+use Rattle.std.proofs.Common.{take}
 use Rattle.bib_keys.proofs.label_bases.Parents.inherited.Given as goal
 
 abbrev pub invariant-join : goal.invariant-join

@@ -1,9 +1,4 @@
-use Rattle.std.proofs.Common.{◌∙◌, ap}
-use Rattle.std.proofs.lemmas.Result.{IfOk-weaker}
-use Rattle.bib_spec.specs.Records.{entries_of}
-use Rattle.bib_names.specs.declared.label_fields.LabelParts.{LabelParts}
-use Rattle.bib_names.specs.LabelParts.{parts_of, parts_with, base_from}
-use Rattle.bib_keys.specs.Parents.{parts_along}
+use Rattle.bib_keys.proofs.Words.{◌∙◌, ap, IfOk-weaker, entries_of, LabelParts, parts_of, parts_with, base_from, parts_along}
 use Rattle.bib_keys.proofs.RecordBases.{base_along}
 use Rattle.bib_keys.proofs.label_bases.Parents.label_base.Goals as goal
 

@@ -1,7 +1,4 @@
-use Rattle.std.proofs.Common.{◌≡◌, ◌∙◌}
-use Rattle.bib_spec.specs.Records.{entries_of}
-use Rattle.bib_names.specs.LabelParts.{parts_of}
-use Rattle.bib_keys.specs.Parents.{label_fields}
+use Rattle.bib_keys.proofs.Words.{◌≡◌, ◌∙◌, entries_of, parts_of, label_fields}
 use Rattle.bib_keys.proofs.KnownParents.{kept_put}
 use Rattle.bib_keys.proofs.label_bases.Parents.learn.Goals as goal
 

@@ -1,6 +1,4 @@
-use Rattle.std.proofs.Common.{true, sym, ap, subst}
-use Rattle.folded_map.specs.FoldedMap.{IsWith}
-use Rattle.bib_keys.specs.declared.taken_keys.TakenKeys.{TakenKeys}
+use Rattle.bib_keys.proofs.Words.{true, sym, ap, subst, IsWith, TakenKeys}
 use Rattle.bib_keys.proofs.TakenLists.{added-short, added-long}
 use Rattle.bib_keys.proofs.taken_keys.TakenKeys.add.Goals as goal
 use Rattle.bib_keys.proofs.taken_keys.TakenKeys.add.Goals.{then-key-le-NAME_LIMIT+in_ok-insert, else-key-le-NAME_LIMIT}

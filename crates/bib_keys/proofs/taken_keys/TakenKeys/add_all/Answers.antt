@@ -1,6 +1,4 @@
-use Rattle.std.proofs.Common.{◌+◌, ◌++◌, List, ◌∷◌, drop, subst, arith}
-use Rattle.bib_spec.specs.Text.{Text}
-use Rattle.bib_keys.specs.TakenKeys.{AreTaken}
+use Rattle.bib_keys.proofs.Words.{◌+◌, ◌++◌, List, ◌∷◌, drop, subst, arith, Text, AreTaken}
 use Rattle.bib_keys.proofs.TakenLists.{AreTakenBut, but-all, but-one_less, but-past}
 use Rattle.bib_keys.proofs.Walks.{next-read}
 use Rattle.bib_keys.proofs.taken_keys.TakenKeys.add_all.Goals as goal

@@ -1,6 +1,4 @@
-use Rattle.std.proofs.Common.{◌≡◌, ◌+◌, ◌++◌, List, drop}
-use Rattle.bib_spec.specs.Text.{Text}
-use Rattle.bib_keys.specs.TakenKeys.{AreTaken}
+use Rattle.bib_keys.proofs.Words.{◌≡◌, ◌+◌, ◌++◌, List, drop, Text, AreTaken}
 use Rattle.bib_keys.proofs.TakenLists.{AreTakenBut}
 use Rattle.bib_keys.proofs.taken_keys.TakenKeys.add_all.Given as goal
 

@@ -1,8 +1,4 @@
-use Rattle.std.proofs.Common.{◌+◌, ◌<◌, ◌++◌, List, length, subst, arith}
-use Rattle.bib_spec.specs.Text.{Text}
-use Rattle.bib_spec.specs.Reading.{Reading, Reads}
-use Rattle.bib_spec.specs.Records.{entries_of, dangling_texts}
-use Rattle.bib_keys.specs.Dangling.{dangling_at}
+use Rattle.bib_keys.proofs.Words.{◌+◌, ◌<◌, ◌++◌, List, length, subst, arith, Text, Reading, Reads, entries_of, dangling_texts, dangling_at}
 use Rattle.bib_keys.proofs.DanglingTexts.{texts_from, texts-next, texts-past}
 use Rattle.bib_keys.proofs.TakenLists.{AreTakenBut, but-all, but-option_less, but-none}
 use Rattle.bib_keys.proofs.taken_keys.TakenKeys.add_dangling.Goals as goal

@@ -1,8 +1,4 @@
-use Rattle.std.proofs.Common.{◌+◌, ◌≤◌, ◌++◌, List}
-use Rattle.bib_spec.specs.Text.{Text}
-use Rattle.bib_spec.specs.Records.{entries_of, dangling_texts}
-use Rattle.bib_store.specs.Meaning.{OfReading}
-use Rattle.bib_keys.specs.TakenKeys.{AreTaken}
+use Rattle.bib_keys.proofs.Words.{◌+◌, ◌≤◌, ◌++◌, List, Text, entries_of, dangling_texts, OfReading, AreTaken}
 use Rattle.bib_keys.proofs.DanglingTexts.{texts_from}
 use Rattle.bib_keys.proofs.TakenLists.{AreTakenBut}
 use Rattle.bib_keys.proofs.taken_keys.TakenKeys.add_dangling.Given as goal

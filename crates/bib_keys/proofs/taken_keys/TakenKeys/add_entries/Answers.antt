@@ -1,11 +1,5 @@
-use Rattle.std.proofs.Common.{◌≡◌, ◌+◌, ◌<◌, ◌++◌, List, ◌∷◌, length, drop, sym, ◌∙◌, subst, arith}
-use Rattle.std.proofs.lemmas.List.{length-map}
-use Rattle.std.proofs.lemmas.Option.{same_Some}
-use Rattle.bib_spec.specs.Text.{Text}
-use Rattle.bib_spec.specs.Reading.{Reading, Reads}
-use Rattle.bib_spec.specs.Records.{entries_of, keys_of}
+use Rattle.bib_keys.proofs.Words.{◌≡◌, ◌+◌, ◌<◌, ◌++◌, List, ◌∷◌, length, drop, sym, ◌∙◌, subst, arith, length-map, same_Some, Text, Reading, Reads, entries_of, keys_of, AreTaken}
 use Rattle.bib_store.proofs.EntryItems.{entry_at, key_at_entry, key_seen}
-use Rattle.bib_keys.specs.TakenKeys.{AreTaken}
 use Rattle.bib_keys.proofs.Walks.{next-of}
 use Rattle.bib_keys.proofs.TakenLists.{AreTakenBut, but-all, but-one_less, but-past}
 use Rattle.bib_keys.proofs.taken_keys.TakenKeys.add_entries.Goals as goal

@@ -1,8 +1,4 @@
-use Rattle.std.proofs.Common.{◌≡◌, ◌+◌, ◌++◌, List, drop}
-use Rattle.bib_spec.specs.Text.{Text}
-use Rattle.bib_spec.specs.Records.{entries_of, keys_of}
-use Rattle.bib_store.specs.Meaning.{OfReading}
-use Rattle.bib_keys.specs.TakenKeys.{AreTaken}
+use Rattle.bib_keys.proofs.Words.{◌≡◌, ◌+◌, ◌++◌, List, drop, Text, entries_of, keys_of, OfReading, AreTaken}
 use Rattle.bib_keys.proofs.TakenLists.{AreTakenBut}
 use Rattle.bib_keys.proofs.taken_keys.TakenKeys.add_entries.Given as goal
 

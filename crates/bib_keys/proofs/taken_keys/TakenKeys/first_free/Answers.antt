@@ -1,8 +1,4 @@
-use Rattle.std.proofs.Common.{◌≤◌, ◌<◌, ◌^◌, not, length, sym, ◌∙◌, ap, subst, arith}
-use Rattle.bib_spec.specs.Bytes.{name_limit}
-use Rattle.bib_spec.specs.Text.{Text, folded}
-use Rattle.bib_spec.specs.MadeKeys.{candidate}
-use Rattle.folded_map.specs.FoldedMap.{value_at}
+use Rattle.bib_keys.proofs.Words.{◌≤◌, ◌<◌, ◌^◌, not, length, sym, ◌∙◌, ap, subst, arith, name_limit, Text, folded, candidate, value_at}
 use Rattle.bib_keys.proofs.CandidateLengths.{candidate-short}
 use Rattle.bib_keys.proofs.FirstFree.{free-found, free-exhausted, tried-more}
 use Rattle.bib_keys.proofs.TakenLists.{told-free, told-taken}

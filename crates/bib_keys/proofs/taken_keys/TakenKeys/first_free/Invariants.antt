@@ -1,6 +1,4 @@
-use Rattle.std.proofs.Common.{◌+◌, ◌-◌, List}
-use Rattle.bib_spec.specs.Text.{Text}
-use Rattle.bib_keys.specs.TakenKeys.{AreTaken, AreTried}
+use Rattle.bib_keys.proofs.Words.{◌+◌, ◌-◌, List, Text, AreTaken, AreTried}
 use Rattle.bib_keys.proofs.taken_keys.TakenKeys.first_free.Given as goal
 
 abbrev pub invariant-candidates : goal.invariant-candidates

@@ -1,6 +1,4 @@
-use Rattle.std.proofs.Common.{List, ℕ, refl, subst}
-use Rattle.bib_spec.specs.Text.{Text}
-use Rattle.folded_map.specs.FoldedMap.{IsWith}
+use Rattle.bib_keys.proofs.Words.{List, ℕ, refl, subst, Text, IsWith}
 use Rattle.bib_keys.proofs.TakenLists.{with-tried}
 use Rattle.bib_keys.proofs.taken_keys.TakenKeys.note.Goals as goal
 

@@ -1,7 +1,4 @@
-use Rattle.std.proofs.Common.{[], List, length, ap, arith, append-nil, subst}
-use Rattle.bib_spec.specs.Text.{Text}
-use Rattle.bib_spec.specs.Records.{entries_of, dangling_texts}
-use Rattle.bib_keys.specs.TakenKeys.{AreTaken}
+use Rattle.bib_keys.proofs.Words.{[], List, length, ap, arith, append-nil, subst, Text, entries_of, dangling_texts, AreTaken}
 use Rattle.bib_keys.proofs.EntryCounts.{few-entries}
 use Rattle.bib_keys.proofs.taken_keys.TakenKeys.of_dangling.Goals as goal
 

@@ -1,4 +1,4 @@
-use Rattle.std.proofs.Common.{◌∷◌}
+use Rattle.bib_keys.proofs.Words.{◌∷◌}
 use Rattle.bib_keys.proofs.TakenLists.{tried-free}
 use Rattle.bib_keys.proofs.taken_keys.TakenKeys.take.Goals as goal
 

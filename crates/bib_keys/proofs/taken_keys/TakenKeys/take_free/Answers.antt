@@ -1,6 +1,4 @@
-use Rattle.std.proofs.Common.{◌∷◌, ◌∙◌, subst}
-use Rattle.bib_spec.specs.Text.{Text}
-use Rattle.bib_keys.specs.TakenKeys.{AreTaken}
+use Rattle.bib_keys.proofs.Words.{◌∷◌, ◌∙◌, subst, Text, AreTaken}
 use Rattle.bib_keys.proofs.taken_keys.TakenKeys.take_free.Goals as goal
 
 pub returns-clause-taken : goal.returns-clause-taken

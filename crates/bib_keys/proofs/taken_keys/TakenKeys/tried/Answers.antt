@@ -1,4 +1,4 @@
-use Rattle.std.proofs.Common.{sym}
+use Rattle.bib_keys.proofs.Words.{sym}
 use Rattle.bib_keys.proofs.taken_keys.TakenKeys.tried.Goals as goal
 
 pub returns-in-Some : goal.returns-in-Some

@@ -1,5 +1,4 @@
-use Rattle.std.proofs.Common.{sym, ◌∙◌}
-use Rattle.std.proofs.lemmas.Bool.{eqb-true}
+use Rattle.bib_names.proofs.Words.{sym, ◌∙◌, eqb-true}
 use Rattle.bib_names.proofs.OutputLemmas.{output_plain, output_joint}
 use Rattle.bib_names.proofs.group_output.Output.push_joint.Goals as goal
 

@@ -1,7 +1,6 @@
-use Rattle.std.proofs.Common.{◌≡◌, ◌∙◌, Option, Some, None, Bor, refl, ap}
-use Rattle.std.specs.Option.{option_copied, option_or}
-use Rattle.bib_spec.specs.Text.{Text}
-use Rattle.bib_names.specs.declared.label_fields.LabelParts.{LabelParts}
+use Rattle.bib_names.proofs.Words.{◌≡◌, ◌∙◌, Bor, refl, ap, option_or, Text, LabelParts}
+use Rattle.std.proofs.Common.{Option, Some, None}
+use Rattle.std.specs.Option.{option_copied}
 use Rattle.bib_names.proofs.label_fields.Inherited.with.Goals as goal
 
 -- the first of two that are lent

@@ -1,4 +1,4 @@
-use Rattle.std.proofs.Common.{sym, ◌∙◌, arith, refl}
+use Rattle.bib_names.proofs.Words.{sym, ◌∙◌, arith, refl}
 use Rattle.bib_names.proofs.BraceLemmas.{more_braces}
 use Rattle.bib_names.proofs.CharLemmas.{brace_past, char_passed, braces_over, chars_next, chars_past}
 use Rattle.bib_names.proofs.special.Chars.next.Goals as goal

@@ -1,5 +1,5 @@
-use Rattle.std.proofs.Common.{◌≡◌, ◌-◌, length}
-use Rattle.bib_names.specs.Scanning.{IsCharPlace, chars_from}
+use Rattle.bib_names.proofs.Words.{◌≡◌, ◌-◌, length, chars_from}
+use Rattle.bib_names.specs.Scanning.{IsCharPlace}
 use Rattle.bib_names.proofs.special.Chars.next.Given as goal
 
 abbrev pub decreases-loop-place : goal.decreases-loop-place

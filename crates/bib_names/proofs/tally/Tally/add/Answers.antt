@@ -1,9 +1,7 @@
-use Rattle.std.proofs.Common.{◌≡◌, ℕ, ◌+◌, Bool, true, false, cond, refl, sym, ap, ◌∙◌, arith, Option, Some, unwrap_or}
-use Rattle.std.specs.Str.{bytes_eq}
-use Rattle.std.proofs.lemmas.Slice.Eq.{bytes_eq-Decides}
+use Rattle.bib_names.proofs.Words.{◌≡◌, ℕ, ◌+◌, Bool, true, false, cond, refl, sym, ap, ◌∙◌, arith, bytes_eq, bytes_eq-Decides, Text}
+use Rattle.std.proofs.Common.{Option, Some, unwrap_or}
 use Rattle.std.proofs.lemmas.Map.Text.{hash_map_updates_str}
 use Rattle.std.specs.HashMap.{get_by}
-use Rattle.bib_spec.specs.Text.{Text}
 use Rattle.bib_names.proofs.tally.Tally.add.Goals as goal
 
 bytes_eq-sym : (a b : Text) → bytes_eq a b ≡ bytes_eq b a

@@ -1,6 +1,4 @@
-use Rattle.std.proofs.Common.{◌≡◌, get_or, sym, ap, ◌∙◌, subst, cond, ◌+◌}
-use Rattle.std.specs.Str.{bytes_eq}
-use Rattle.bib_spec.specs.Text.{Text}
+use Rattle.bib_names.proofs.Words.{◌≡◌, get_or, sym, ap, ◌∙◌, subst, cond, ◌+◌, bytes_eq, Text}
 use Rattle.bib_names.proofs.LabelLaws.{count_of_more}
 use Rattle.bib_names.proofs.tally.Tally.of.Goals as goal
 

@@ -1,6 +1,4 @@
-use Rattle.std.proofs.Common.{◌≡◌, ℕ, List, take}
-use Rattle.bib_names.specs.Label.{count_of}
-use Rattle.bib_names.specs.Counts.{times}
+use Rattle.bib_names.proofs.Words.{◌≡◌, ℕ, List, take, count_of, times}
 use Rattle.bib_names.proofs.tally.Tally.of.Given as goal
 
 abbrev pub invariant-loop-text : goal.invariant-loop-text

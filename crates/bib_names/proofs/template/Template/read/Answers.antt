@@ -1,4 +1,4 @@
-use Rattle.std.proofs.Common.{sym, ◌∙◌, subst, List, ℕ}
+use Rattle.bib_names.proofs.Words.{sym, ◌∙◌, subst, List, ℕ}
 use Rattle.bib_names.proofs.TemplateLaws.{IsReadSoFar, read_front, read_more, read_stuck, read_left, after_byte-found, length-after, not_empty}
 use Rattle.bib_names.proofs.template.Template.read.Goals as goal
 

@@ -1,4 +1,4 @@
-use Rattle.std.proofs.Common.{length}
+use Rattle.bib_names.proofs.Words.{length}
 use Rattle.bib_names.proofs.TemplateLaws.{IsReadSoFar}
 use Rattle.bib_names.proofs.template.Template.read.Given as goal
 

@@ -1,5 +1,4 @@
-use Rattle.std.proofs.Common.{◌≡◌, ◌≤◌, ◌<◌, ℕ, List, suc, length, get_or, sym, subst, arith}
-use Rattle.bib_numbers.specs.Labels.{AreLabels}
+use Rattle.bib_numbers.proofs.Words.{◌≡◌, ◌≤◌, ◌<◌, ℕ, List, suc, length, get_or, sym, subst, arith, AreLabels}
 use Rattle.bib_numbers.proofs.RisingLabels.{labels_put}
 use Rattle.bib_numbers.proofs.labels.Labels.make.Goals as goal
 

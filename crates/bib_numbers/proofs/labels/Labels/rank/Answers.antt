@@ -1,5 +1,4 @@
-use Rattle.std.proofs.Common.{◌∙◌, ap}
-use Rattle.bib_numbers.specs.Numbers.{rank_in}
+use Rattle.bib_numbers.proofs.Words.{◌∙◌, ap, rank_in}
 use Rattle.bib_numbers.proofs.RisingLabels.{rising_ascend}
 use Rattle.bib_numbers.proofs.labels.Labels.rank.Goals as goal
 

@@ -1,5 +1,4 @@
-use Rattle.std.proofs.Common.{sym, subst}
-use Rattle.bib_numbers.specs.Labels.{AreLabels}
+use Rattle.bib_numbers.proofs.Words.{sym, subst, AreLabels}
 use Rattle.bib_numbers.proofs.RisingLabels.{labels_removed}
 use Rattle.bib_numbers.proofs.labels.Labels.remove.Goals as goal
 

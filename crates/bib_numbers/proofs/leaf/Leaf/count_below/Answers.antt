@@ -1,9 +1,5 @@
-use Rattle.std.proofs.Common.{◌≡◌, ◌≤◌, ◌∙◌, ℕ, List, true, false, nat_lt, map, length, rules, sym, subst, ap, arith}
-use Rattle.std.specs.List.Sorted.{IsPartitionedBy, IsPartitionPoint}
-use Rattle.std.proofs.lemmas.List.{length-map}
-use Rattle.std.proofs.lemmas.List.Sorted.{IsPartitionPoint-from_clause}
-use Rattle.bib_numbers.specs.Numbers.{Ascend, rank_in}
-use Rattle.bib_numbers.specs.Moves.{plus}
+use Rattle.bib_numbers.proofs.Words.{◌≡◌, ◌≤◌, ◌∙◌, ℕ, List, map, length, rules, sym, subst, ap, arith, IsPartitionedBy, IsPartitionPoint, length-map, IsPartitionPoint-from_clause, Ascend, rank_in, plus}
+use Rattle.std.proofs.Common.{true, false, nat_lt}
 use Rattle.bib_numbers.proofs.Moves.{parted_shown, point_shown}
 use Rattle.bib_numbers.proofs.MovedNumbers.{parted, parted_at, front_ends, rank_of}
 use Rattle.bib_numbers.proofs.leaf.Leaf.count_below.Goals as goal

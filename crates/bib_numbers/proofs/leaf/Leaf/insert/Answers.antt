@@ -1,5 +1,4 @@
-use Rattle.std.proofs.Common.{◌-◌, ◌+◌, ◌%◌, ◌^◌, ◌∙◌, ℕ, List, insert, map, ap, ap₂}
-use Rattle.bib_numbers.specs.Moves.{plus}
+use Rattle.bib_numbers.proofs.Words.{◌-◌, ◌+◌, ◌%◌, ◌^◌, ◌∙◌, ℕ, List, insert, map, ap, ap₂, plus}
 use Rattle.bib_numbers.proofs.Moves.{map-insert, plus-back}
 use Rattle.bib_numbers.proofs.leaf.Leaf.insert.Goals as goal
 

@@ -1,5 +1,4 @@
-use Rattle.std.proofs.Common.{◌∙◌, ℕ, List, remove, map, ap}
-use Rattle.bib_numbers.specs.Moves.{plus}
+use Rattle.bib_numbers.proofs.Words.{◌∙◌, ℕ, List, remove, map, ap, plus}
 use Rattle.bib_numbers.proofs.Moves.{map-remove}
 use Rattle.bib_numbers.proofs.leaf.Leaf.remove.Goals as goal
 

@@ -1,5 +1,4 @@
-use Rattle.std.proofs.Common.{◌∙◌, ap, map}
-use Rattle.bib_numbers.specs.Moves.{plus}
+use Rattle.bib_numbers.proofs.Words.{◌∙◌, ap, map, plus}
 use Rattle.bib_numbers.proofs.Moves.{map-plus}
 use Rattle.bib_numbers.proofs.leaf.Leaf.shift.Goals as goal
 

@@ -1,5 +1,4 @@
-use Rattle.std.proofs.Common.{◌∙◌, map, ap}
-use Rattle.bib_numbers.specs.Moves.{plus, moved_from}
+use Rattle.bib_numbers.proofs.Words.{◌∙◌, map, ap, plus, moved_from}
 use Rattle.bib_numbers.proofs.Moves.{map-moved, written_moved}
 use Rattle.bib_numbers.proofs.leaf.Leaf.shift_from.Goals as goal
 

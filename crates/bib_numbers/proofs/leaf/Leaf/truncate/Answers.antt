@@ -1,6 +1,4 @@
-use Rattle.std.proofs.Common.{◌∙◌, take, map, ap, sym}
-use Rattle.std.specs.List.{take-map}
-use Rattle.bib_numbers.specs.Moves.{plus}
+use Rattle.bib_numbers.proofs.Words.{◌∙◌, take, map, ap, sym, take-map, plus}
 use Rattle.bib_numbers.proofs.leaf.Leaf.truncate.Goals as goal
 
 pub returns : goal.returns

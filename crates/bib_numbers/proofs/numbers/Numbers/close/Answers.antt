@@ -1,7 +1,4 @@
-use Rattle.std.proofs.Common.{◌≡◌, ◌<◌, ◌^◌, ℕ, List, ◌++◌, ◌∙◌, suc, map, sym, ap, ap₂, subst, arith}
-use Rattle.std.specs.List.{AllByRecursion}
-use Rattle.bib_numbers.specs.Numbers.{Ascend, rank_in}
-use Rattle.bib_numbers.specs.Moves.{moved_from}
+use Rattle.bib_numbers.proofs.Words.{◌≡◌, ◌<◌, ◌^◌, ℕ, List, ◌++◌, ◌∙◌, suc, map, sym, ap, ap₂, subst, arith, AllByRecursion, Ascend, rank_in, moved_from}
 use Rattle.bib_numbers.proofs.MovedNumbers.{lowered, moved_rest, map-lowered, less_one, above_rank, ends, part_one, ascend_lowered}
 use Rattle.bib_numbers.proofs.numbers.Numbers.close.Goals as goal
 

@@ -1,8 +1,5 @@
-use Rattle.std.proofs.Common.{◌≡◌, ◌≤◌, ◌<◌, ◌+◌, ◌-◌, ◌^◌, length, slice_index_or, sym, subst, arith}
-use Rattle.std.specs.List.{AllByRecursion}
+use Rattle.bib_numbers.proofs.Words.{◌≡◌, ◌≤◌, ◌<◌, ◌+◌, ◌-◌, ◌^◌, length, slice_index_or, sym, subst, arith, AllByRecursion, get_or_from_slice_get, PartAt, HaveNext}
 use Rattle.std.proofs.lemmas.Bool.{eqb-true, eqb-false}
-use Rattle.std.proofs.lemmas.Option.{get_or_from_slice_get}
-use Rattle.bib_numbers.specs.Numbers.{PartAt, HaveNext}
 use Rattle.bib_numbers.proofs.MovedNumbers.{below_last, at_most, have_next, next_of_last}
 use Rattle.bib_numbers.proofs.numbers.Numbers.has_greatest.Goals as goal
 

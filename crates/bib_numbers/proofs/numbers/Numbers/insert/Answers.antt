@@ -1,6 +1,4 @@
-use Rattle.std.proofs.Common.{refl, ◌≡◌, ◌<◌, ◌+◌, ◌^◌, ◌∙◌, suc, insert, sym, ap, subst}
-use Rattle.bib_numbers.specs.Numbers.{PartAt, HasParts, Ascend, HaveNext, rank_in}
-use Rattle.bib_numbers.specs.Moves.{plus, moved_from}
+use Rattle.bib_numbers.proofs.Words.{refl, ◌≡◌, ◌<◌, ◌+◌, ◌^◌, ◌∙◌, suc, insert, sym, ap, subst, PartAt, HasParts, Ascend, HaveNext, rank_in, plus, moved_from}
 use Rattle.bib_numbers.proofs.MovedNumbers.{put_number, plus_one, rest_put, parted_at, ends, ascend_put}
 use Rattle.bib_numbers.proofs.numbers.Numbers.insert.Goals as goal
 

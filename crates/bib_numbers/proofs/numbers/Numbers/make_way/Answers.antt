@@ -1,6 +1,4 @@
-use Rattle.std.proofs.Common.{refl, ◌≡◌, ◌<◌, ◌+◌, ◌^◌, ℕ, List, ◌∙◌, suc, sym, ap, ap₂, subst}
-use Rattle.bib_numbers.specs.Numbers.{PartAt, Ascend, HaveNext, rank_in}
-use Rattle.bib_numbers.specs.Moves.{moved_from}
+use Rattle.bib_numbers.proofs.Words.{refl, ◌≡◌, ◌<◌, ◌+◌, ◌^◌, ℕ, List, ◌∙◌, suc, sym, ap, ap₂, subst, PartAt, Ascend, HaveNext, rank_in, moved_from}
 use Rattle.bib_numbers.proofs.MovedNumbers.{moved_rest, plus_one, rest_has, ends, ascend_raised, rank_raised}
 use Rattle.bib_numbers.proofs.numbers.Numbers.make_way.Goals as goal
 

@@ -1,6 +1,5 @@
-use Rattle.std.proofs.Common.{◌≢◌, ◌∙◌, sym, subst, arith}
-use Rattle.std.specs.List.{AllByRecursion}
-use Rattle.std.proofs.lemmas.Option.{get_or_from_slice_get}
+use Rattle.bib_numbers.proofs.Words.{◌∙◌, sym, subst, arith, AllByRecursion, get_or_from_slice_get}
+use Rattle.std.proofs.Common.{◌≢◌}
 use Rattle.bib_numbers.proofs.MovedNumbers.{absent}
 use Rattle.bib_numbers.proofs.numbers.Numbers.position.Goals as goal
 

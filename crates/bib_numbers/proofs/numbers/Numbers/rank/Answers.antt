@@ -1,5 +1,4 @@
-use Rattle.std.proofs.Common.{◌∙◌, ap}
-use Rattle.bib_numbers.specs.Numbers.{rank_in}
+use Rattle.bib_numbers.proofs.Words.{◌∙◌, ap, rank_in}
 use Rattle.bib_numbers.proofs.MovedNumbers.{rank_of}
 use Rattle.bib_numbers.proofs.numbers.Numbers.rank.Goals as goal
 

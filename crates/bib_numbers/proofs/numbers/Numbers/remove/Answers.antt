@@ -1,5 +1,4 @@
-use Rattle.std.proofs.Common.{ℕ, ◌∷◌, ◌∙◌, suc, length, length-append, map, sym, ap, subst, arith}
-use Rattle.bib_numbers.specs.Numbers.{Ascend}
+use Rattle.bib_numbers.proofs.Words.{ℕ, ◌∷◌, ◌∙◌, suc, length, length-append, map, sym, ap, subst, arith, Ascend}
 use Rattle.bib_numbers.proofs.MovedNumbers.{part_with, taken_number, ascend_removed, ends}
 use Rattle.bib_numbers.proofs.numbers.Numbers.remove.Goals as goal
 

@@ -1,4 +1,5 @@
-use Rattle.std.proofs.Common.{◌-◌, ◌<◌, ℕ, List, length, slice_index, sym, ap, ◌∙◌, arith}
+use Rattle.bib_order.proofs.Words.{◌-◌, ◌<◌, ℕ, List, length, sym, ap, ◌∙◌, arith}
+use Rattle.std.proofs.Common.{slice_index}
 use Rattle.std.proofs.lemmas.Grind.{get_or_default_zero}
 use Rattle.bib_order.proofs.Counted.{length_all, at_front, at_back}
 use Rattle.bib_order.proofs.listed.Listed.id_at.Goals as goal

@@ -1,7 +1,4 @@
-use Rattle.std.proofs.Common.{◌≡◌, ℕ, List, Some, sym, subst}
-use Rattle.std.specs.List.{slice_get}
-use Rattle.std.specs.Option.{IfNone}
-use Rattle.bib_order.specs.Orders.{Lacks}
+use Rattle.bib_order.proofs.Words.{◌≡◌, ℕ, List, Some, sym, subst, slice_get, IfNone, Lacks}
 use Rattle.bib_order.proofs.Counted.{front_found, lacks_all}
 use Rattle.bib_order.proofs.listed.Listed.position_of.Goals as goal
 

@@ -1,6 +1,5 @@
-use Rattle.std.proofs.Common.{◌≡◌, ◌∙◌, ◌++◌, ◌+◌, ℕ, List, [], length, insert, subst, ap, ap₂, rules, arith}
+use Rattle.bib_order.proofs.Words.{◌≡◌, ◌∙◌, ◌++◌, ◌+◌, ℕ, List, [], length, insert, subst, ap, ap₂, rules, arith, Lacks}
 use Rattle.std.proofs.lemmas.List.{nil_from_length}
-use Rattle.bib_order.specs.Orders.{Lacks}
 use Rattle.bib_order.specs.Counted.{counted}
 use Rattle.bib_order.proofs.Counted.{more_counted, lacks_counted, ascend_alone}
 use Rattle.bib_order.proofs.listed.Listed.push.Goals as goal

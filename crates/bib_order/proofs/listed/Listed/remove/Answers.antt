@@ -1,5 +1,4 @@
-use Rattle.std.proofs.Common.{◌∙◌, ℕ, List, remove, sym, subst, ap}
-use Rattle.bib_order.specs.Orders.{Ascend}
+use Rattle.bib_order.proofs.Words.{◌∙◌, ℕ, List, remove, sym, subst, ap, Ascend}
 use Rattle.bib_order.proofs.Ascending.{ascend_less}
 use Rattle.bib_order.proofs.Counted.{less_counted}
 use Rattle.bib_order.proofs.listed.Listed.remove.Goals as goal

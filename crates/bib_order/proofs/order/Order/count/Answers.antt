@@ -1,5 +1,4 @@
-use Rattle.std.proofs.Common.{subst}
-use Rattle.bib_order.specs.Orders.{IsDistinct}
+use Rattle.bib_order.proofs.Words.{subst, IsDistinct}
 use Rattle.bib_order.proofs.Keeping.{kept_distinct}
 use Rattle.bib_order.proofs.order.Order.count.Goals as goal
 

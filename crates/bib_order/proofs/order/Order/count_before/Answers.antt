@@ -1,7 +1,5 @@
-use Rattle.std.proofs.Common.{take, rules, subst, ◌∙◌, sym}
+use Rattle.bib_order.proofs.Words.{take, rules, subst, ◌∙◌, sym, IsDistinct, is_among, before}
 use Rattle.std.proofs.lemmas.List.Sorted.{IsPartitionPoint-from_clause}
-use Rattle.bib_order.specs.Orders.{IsDistinct, is_among}
-use Rattle.bib_order.specs.Holders.{before}
 use Rattle.bib_order.proofs.Keeping.{kept_distinct}
 use Rattle.bib_order.proofs.Counting.{counted, counted_last, counted_parts, counted_point}
 use Rattle.bib_order.proofs.order.Order.count_before.Goals as goal

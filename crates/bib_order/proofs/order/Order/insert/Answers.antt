@@ -1,5 +1,4 @@
-use Rattle.std.proofs.Common.{subst}
-use Rattle.bib_order.specs.Ids.{AreKept}
+use Rattle.bib_order.proofs.Words.{subst, AreKept}
 use Rattle.bib_order.proofs.Ordering.{put_or_same}
 use Rattle.bib_order.proofs.order.Order.insert.Goals as goal
 

@@ -1,6 +1,5 @@
-use Rattle.std.proofs.Common.{◌∙◌, subst, sym, ⊎_elim}
-use Rattle.std.proofs.lemmas.Bool.{cases_lt, lt-ltb, le-ltb}
-use Rattle.bib_order.specs.Orders.{IsDistinct}
+use Rattle.bib_order.proofs.Words.{◌∙◌, subst, sym, ⊎_elim, cases_lt, IsDistinct}
+use Rattle.std.proofs.lemmas.Bool.{lt-ltb, le-ltb}
 use Rattle.bib_order.proofs.Counting.{stands_below, stands_later, stands_nowhere}
 use Rattle.bib_order.proofs.Keeping.{kept_distinct}
 use Rattle.bib_order.proofs.order.Order.stands_before.Goals as goal

@@ -1,6 +1,4 @@
-use Rattle.std.proofs.Common.{◌<◌, ℕ, length, subst, sym, ap, arith}
-use Rattle.bib_order.specs.Orders.{IsDistinct}
-use Rattle.bib_order.specs.Ids.{ids_of, AreKept}
+use Rattle.bib_order.proofs.Words.{◌<◌, ℕ, length, subst, sym, ap, arith, IsDistinct, ids_of, AreKept}
 use Rattle.bib_order.specs.contracts.order.Order.{the_invariant}
 use Rattle.bib_order.proofs.Ordering.{distinct_remove}
 use Rattle.bib_order.proofs.order.Order.take_out.Goals.{in-Listed, in-Paged}

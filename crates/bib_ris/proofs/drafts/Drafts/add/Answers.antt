@@ -1,11 +1,6 @@
-use Rattle.std.proofs.Common.{◌≡◌, ◌∙◌, [], ◌∷◌, ◌++◌, List, inl, inr, sym, ap, ap₂, subst}
-use Rattle.std.proofs.lemmas.Bool.{cases_Bool}
-use Rattle.bib_spec.specs.Records.{Record}
-use Rattle.bib_data.specs.declared.edit.NewEntry.{NewEntry}
-use Rattle.ris_format.specs.Entry.{are_balanced}
+use Rattle.bib_ris.proofs.Words.{◌≡◌, ◌∙◌, [], ◌∷◌, ◌++◌, List, sym, ap, ap₂, subst, cases_Bool, Record, NewEntry, are_balanced, Drafts, AreDraftsOf}
+use Rattle.std.proofs.Common.{inl, inr}
 use Rattle.ris_format.specs.declared.fault.MappingFault.TheVariants.{UnbalancedText, Memory}
-use Rattle.bib_ris.specs.declared.drafts.Drafts.{Drafts}
-use Rattle.bib_ris.specs.Drafts.{AreDraftsOf}
 use Rattle.bib_ris.proofs.DraftSteps.{drafts-more}
 use Rattle.bib_ris.proofs.drafts.Drafts.add.Goals as goal
 

@@ -1,6 +1,4 @@
-use Rattle.std.proofs.Common.{◌∙◌, [], sym, ap}
-use Rattle.std.specs.Prelude.{Ok}
-use Rattle.ris_text.specs.Code.{ris_file}
+use Rattle.bib_ris.proofs.Words.{◌∙◌, [], sym, ap, Ok, ris_file}
 use Rattle.bib_ris.proofs.DraftSteps.{said-more, said-all, said-unbalanced}
 use Rattle.bib_ris.proofs.drafts.Drafts.of.Goals as goal
 

@@ -1,4 +1,4 @@
-use Rattle.std.proofs.lemmas.Result.{IfOk-weaker}
+use Rattle.bib_run.proofs.Words.{IfOk-weaker}
 use Rattle.bib_run.specs.Inputs.{answered}
 use Rattle.bib_run.proofs.commands.edit.answer_edit.Goals as goal
 

@@ -1,10 +1,4 @@
-use Rattle.std.proofs.Common.{◌≡◌, ◌∙◌, List, Option, ap, subst}
-use Rattle.std.proofs.lemmas.Result.{IfOk-weaker}
-use Rattle.bib_spec.specs.Text.{Text}
-use Rattle.bib_data.specs.declared.request.Request.{Request}
-use Rattle.bib_journal.specs.Session.{Performs}
-use Rattle.bib_script.specs.Script.{Said, said_of}
-use Rattle.bib_run.specs.EditAnswer.{edited_answer, stop_line}
+use Rattle.bib_run.proofs.Words.{◌≡◌, ◌∙◌, List, Option, ap, subst, IfOk-weaker, Text, Request, Performs, Said, said_of, edited_answer, stop_line}
 use Rattle.bib_run.proofs.commands.edit.edit.Goals as goal
 
 pub returns : goal.returns

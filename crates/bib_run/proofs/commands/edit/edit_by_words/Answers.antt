@@ -1,6 +1,4 @@
-use Rattle.std.proofs.Common.{◌≡◌, Some}
-use Rattle.std.proofs.lemmas.Result.{IfOk-weaker}
-use Rattle.bib_script.specs.Words.{asked_by_words}
+use Rattle.bib_run.proofs.Words.{◌≡◌, Some, IfOk-weaker, asked_by_words}
 use Rattle.bib_run.specs.EditAnswer.{said}
 use Rattle.bib_run.proofs.commands.edit.edit_by_words.Goals as goal
 

@@ -1,5 +1,4 @@
-use Rattle.std.proofs.Common.{◌≡◌, ◌≤◌, take, sum_by}
-use Rattle.bib_run.specs.EditAnswer.{changes_of}
+use Rattle.bib_run.proofs.Words.{◌≡◌, ◌≤◌, take, sum_by, changes_of}
 use Rattle.bib_run.proofs.commands.edit.edits_in.Given as goal
 
 abbrev pub invariant-request : goal.invariant-request

@@ -1,6 +1,5 @@
-use Rattle.std.proofs.Common.{◌≡◌, ◌∙◌, ◌++◌, [], Some, option_map, rules, sym, ap}
+use Rattle.bib_run.proofs.Words.{◌≡◌, ◌∙◌, ◌++◌, [], Some, option_map, rules, sym, ap, answer_of}
 use Rattle.fault_pages.specs.Heads.{head_of, asked}
-use Rattle.bib_answers.specs.Outcome.{answer_of}
 use Rattle.bib_run.specs.Explaining.{head_lines, explained}
 use Rattle.bib_run.proofs.commands.explain.answer_explain.Goals as goal
 

@@ -1,5 +1,4 @@
-use Rattle.std.proofs.Common.{rules}
-use Rattle.std.proofs.lemmas.Result.{IfOk-weaker}
+use Rattle.bib_run.proofs.Words.{rules, IfOk-weaker}
 use Rattle.bib_run.specs.ImportAnswer.{added, refused}
 use Rattle.bib_run.proofs.commands.import.add.Goals as goal
 

@@ -1,7 +1,5 @@
-use Rattle.std.proofs.Common.{◌≤◌, ◌<◌, length, rules}
-use Rattle.std.proofs.lemmas.Result.{IfOk-weaker}
-use Rattle.bib_spec.specs.Bytes.{file_limit}
-use Rattle.bib_run.specs.Inputs.{within, too_long}
+use Rattle.bib_run.proofs.Words.{◌≤◌, ◌<◌, length, rules, IfOk-weaker, file_limit, within}
+use Rattle.bib_run.specs.Inputs.{too_long}
 use Rattle.bib_run.proofs.commands.import.answer_records.Goals as goal
 
 pub returns-then-input-gt-FILE_LIMIT : goal.returns-then-input-gt-FILE_LIMIT

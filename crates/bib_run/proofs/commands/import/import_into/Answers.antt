@@ -1,7 +1,4 @@
-use Rattle.std.proofs.Common.{subst}
-use Rattle.std.proofs.lemmas.Result.{IfOk-weaker}
-use Rattle.bib_spec.specs.Text.{Text}
-use Rattle.bib_ris.specs.Import.{AreAdditions}
+use Rattle.bib_run.proofs.Words.{subst, IfOk-weaker, Text, AreAdditions}
 use Rattle.bib_run.specs.ImportAnswer.{read, unread}
 use Rattle.bib_run.proofs.commands.import.import_into.Goals as goal
 

@@ -1,9 +1,7 @@
-use Rattle.std.proofs.Common.{◌≡◌, ◌∙◌, ◌++◌, List, take, get_or, sym, ap}
-use Rattle.std.specs.List.{flat_map}
+use Rattle.bib_run.proofs.Words.{◌≡◌, ◌∙◌, ◌++◌, List, take, sym, ap, flat_map, Text, step_line}
+use Rattle.std.proofs.Common.{get_or}
 use Rattle.std.proofs.lemmas.List.{take_more, flat_map_more}
-use Rattle.bib_spec.specs.Text.{Text}
 use Rattle.history_spec.specs.Steps.{Step}
-use Rattle.bib_run.specs.Log.{step_line}
 use Rattle.bib_run.proofs.commands.log.add_steps.Goals as goal
 
 pub step-preserved : goal.step-preserved

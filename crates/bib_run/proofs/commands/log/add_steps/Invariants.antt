@@ -1,6 +1,4 @@
-use Rattle.std.proofs.Common.{◌≡◌, ◌++◌, take}
-use Rattle.std.specs.List.{flat_map}
-use Rattle.bib_run.specs.Log.{step_line}
+use Rattle.bib_run.proofs.Words.{◌≡◌, ◌++◌, take, flat_map, step_line}
 use Rattle.bib_run.proofs.commands.log.add_steps.Given as goal
 
 abbrev pub invariant-step : goal.invariant-step

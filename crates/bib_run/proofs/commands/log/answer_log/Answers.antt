@@ -1,7 +1,5 @@
-use Rattle.std.proofs.Common.{◌∙◌, [], ap}
-use Rattle.bib_spec.specs.Text.{Text}
+use Rattle.bib_run.proofs.Words.{◌∙◌, [], ap, Text, answer_of}
 use Rattle.bib_journal.specs.Kept.{kept}
-use Rattle.bib_answers.specs.Outcome.{answer_of}
 use Rattle.bib_run.specs.Log.{listed}
 use Rattle.bib_run.proofs.commands.log.answer_log.Goals as goal
 

@@ -1,5 +1,4 @@
-use Rattle.std.proofs.Common.{◌≡◌, rules, ◌∙◌}
-use Rattle.bib_run.specs.Log.{old_len, new_len}
+use Rattle.bib_run.proofs.Words.{◌≡◌, rules, ◌∙◌, old_len, new_len}
 use Rattle.bib_run.proofs.LogLemmas.{old_len_shown, new_len_shown}
 use Rattle.bib_run.proofs.commands.log.counts_part.Goals as goal
 

@@ -1,6 +1,4 @@
-use Rattle.std.proofs.Common.{rules, subst}
-use Rattle.bib_journal.specs.OpenSteps.{SessionState}
-use Rattle.bib_journal.specs.Loading.{Saves}
+use Rattle.bib_run.proofs.Words.{rules, subst, SessionState, Saves}
 use Rattle.bib_run.specs.Log.{forgot}
 use Rattle.bib_run.proofs.commands.log.new_journal.Goals as goal
 

@@ -1,4 +1,4 @@
-use Rattle.std.proofs.Common.{◌≡◌, ◌-◌, ◌^◌, length, min, sum_by, take}
+use Rattle.bib_run.proofs.Words.{◌≡◌, ◌-◌, ◌^◌, length, min, sum_by, take}
 use Rattle.bib_run.proofs.commands.log.new_len.Given as goal
 
 abbrev pub invariant-piece : goal.invariant-piece

@@ -1,4 +1,4 @@
-use Rattle.std.proofs.lemmas.Result.{IfOk-weaker}
+use Rattle.bib_run.proofs.Words.{IfOk-weaker}
 use Rattle.bib_answers.proofs.Refusals.{file_refused, file_answered}
 use Rattle.bib_run.proofs.commands.ris.answer_ris.Goals as goal
 

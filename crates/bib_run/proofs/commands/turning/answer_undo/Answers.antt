@@ -1,5 +1,4 @@
-use Rattle.std.proofs.lemmas.Result.{IfOk-weaker}
-use Rattle.bib_run.specs.Turns.{turned}
+use Rattle.bib_run.proofs.Words.{IfOk-weaker, turned}
 use Rattle.bib_run.proofs.commands.turning.answer_undo.Goals as goal
 
 pub returns-in-Ok : goal.returns-in-Ok

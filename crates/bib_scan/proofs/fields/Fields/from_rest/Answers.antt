@@ -1,4 +1,4 @@
-use Rattle.std.proofs.Common.{length, arith}
+use Rattle.bib_scan.proofs.Words.{length, arith}
 use Rattle.bib_scan.proofs.StepLaws.{fields_few}
 use Rattle.bib_scan.proofs.fields.Fields.from_rest.Goals as goal
 

@@ -1,7 +1,5 @@
-use Rattle.std.proofs.Common.{◌∷◌, ◌∙◌, sym, ap, arith, length}
-use Rattle.bib_scan.specs.View.{Field, field_seen}
-use Rattle.bib_scan.specs.FieldsLeft.{all_fields_left}
-use Rattle.bib_scan.specs.declared.view.Kind.{Kind}
+use Rattle.bib_scan.proofs.Words.{◌∷◌, ◌∙◌, sym, ap, arith, length, Field, all_fields_left, Kind}
+use Rattle.bib_scan.specs.View.{field_seen}
 use Rattle.bib_scan.proofs.StepLaws.{field_last, field_step}
 use Rattle.bib_scan.proofs.fields.FieldsIterator.next.Goals as goal
 

@@ -1,6 +1,4 @@
-use Rattle.std.proofs.Common.{ℕ, ◌<◌, ◌-◌, ◌∙◌, length, take, sym, ap, subst, arith}
-use Rattle.std.proofs.lemmas.List.{length-drop}
-use Rattle.bib_scan.specs.Layout.{Places, IsLayoutOf}
+use Rattle.bib_scan.proofs.Words.{ℕ, ◌<◌, ◌-◌, ◌∙◌, length, take, sym, ap, subst, arith, length-drop, Places, IsLayoutOf}
 use Rattle.bib_scan.proofs.LayoutLaws.{body_lies, body_is}
 use Rattle.bib_scan.proofs.layout.Layout.body.Goals as goal
 

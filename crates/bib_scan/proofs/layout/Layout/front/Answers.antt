@@ -1,5 +1,4 @@
-use Rattle.std.proofs.Common.{◌∙◌, sym, subst}
-use Rattle.bib_scan.specs.Layout.{IsLayoutOf}
+use Rattle.bib_scan.proofs.Words.{◌∙◌, sym, subst, IsLayoutOf}
 use Rattle.bib_scan.proofs.LayoutLaws.{front_is}
 use Rattle.bib_scan.proofs.layout.Layout.front.Goals as goal
 

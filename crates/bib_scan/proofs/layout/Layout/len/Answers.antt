@@ -1,5 +1,4 @@
-use Rattle.std.proofs.Common.{◌≡◌, length, ◌∙◌, ap, rules}
-use Rattle.bib_scan.specs.Layout.{Places}
+use Rattle.bib_scan.proofs.Words.{◌≡◌, length, ◌∙◌, ap, rules, Places}
 use Rattle.bib_scan.proofs.LayoutLaws.{length-places}
 use Rattle.bib_scan.proofs.layout.Layout.len.Goals as goal
 

@@ -1,6 +1,4 @@
-use Rattle.std.proofs.Common.{ℕ, ◌<◌, ◌-◌, ◌∙◌, length, take, sym, ap, subst, arith}
-use Rattle.std.proofs.lemmas.List.{length-drop}
-use Rattle.bib_scan.specs.Layout.{Places, trail_end, IsLayoutOf}
+use Rattle.bib_scan.proofs.Words.{ℕ, ◌<◌, ◌-◌, ◌∙◌, length, take, sym, ap, subst, arith, length-drop, Places, trail_end, IsLayoutOf}
 use Rattle.bib_scan.proofs.LayoutLaws.{trail_lies, trail_is}
 use Rattle.bib_scan.proofs.layout.Layout.trail.Goals as goal
 

@@ -1,6 +1,4 @@
-use Rattle.std.proofs.Common.{◌≢◌, ◌<◌, ◌∙◌, length, sym, ap, arith}
-use Rattle.bib_spec.specs.Text.{Text}
-use Rattle.bib_scan.specs.FieldsLeft.{read_row_field}
+use Rattle.bib_scan.proofs.Words.{◌≢◌, ◌<◌, ◌∙◌, length, sym, ap, arith, Text, read_row_field}
 use Rattle.bib_scan.proofs.NoteLaws.{noted_crossref, crossref_read}
 use Rattle.bib_scan.proofs.note.Note.crossref.Goals as goal
 use Rattle.bib_scan.proofs.note.Note.crossref.Goals.{then-at-eq0-via-then-at-eq0, then-at-eq0-via-else-at-eq0+then-at-body}

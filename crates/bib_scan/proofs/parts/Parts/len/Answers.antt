@@ -1,6 +1,4 @@
-use Rattle.std.proofs.Common.{◌≡◌, length, ◌∙◌, ap, rules}
-use Rattle.bib_scan.specs.ValueParts.{parts_of}
-use Rattle.bib_scan.specs.declared.parts.PartSpan.{PartSpan}
+use Rattle.bib_scan.proofs.Words.{◌≡◌, length, ◌∙◌, ap, rules, parts_of, PartSpan}
 use Rattle.bib_scan.proofs.TakenApart.{length-spans_of}
 use Rattle.bib_scan.proofs.parts.Parts.len.Goals as goal
 

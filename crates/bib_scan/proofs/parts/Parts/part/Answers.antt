@@ -1,9 +1,5 @@
-use Rattle.std.proofs.Common.{ℕ, List, ◌≡◌, ◌-◌, ◌<◌, ◌∙◌, sym, ap, subst, length, take, arith, Some}
-use Rattle.std.proofs.lemmas.List.{length-drop}
+use Rattle.bib_scan.proofs.Words.{ℕ, List, ◌≡◌, ◌-◌, ◌<◌, ◌∙◌, sym, ap, subst, length, take, arith, Some, length-drop, Part, Value, parts_of, IsPartsOf, PartSpan}
 use Rattle.std.specs.Prelude.{slice_get}
-use Rattle.bib_spec.specs.Tree.{Part, Value}
-use Rattle.bib_scan.specs.ValueParts.{parts_of, IsPartsOf}
-use Rattle.bib_scan.specs.declared.parts.PartSpan.{PartSpan}
 use Rattle.bib_scan.proofs.TakenApart.{kept_part, part_low, part_text, one_value}
 use Rattle.bib_scan.proofs.parts.Parts.part.Goals as goal
 

@@ -1,4 +1,4 @@
-use Rattle.std.proofs.Common.{◌≡◌}
+use Rattle.bib_scan.proofs.Words.{◌≡◌}
 use Rattle.bib_scan.proofs.reader.Reader.finish.Given as goal
 
 abbrev pub invariant-loop-reader : goal.invariant-loop-reader

@@ -1,9 +1,5 @@
-use Rattle.std.proofs.Common.{◌≡◌, length, map, ap, ◌∙◌, subst}
-use Rattle.bib_spec.specs.Bytes.{name_limit}
-use Rattle.bib_spec.specs.Text.{Text}
-use Rattle.bib_scan.specs.Layout.{placed, places_of, IsLayoutOf}
-use Rattle.bib_scan.specs.NotesLeft.{note_at}
-use Rattle.bib_scan.specs.Progress.{Progress}
+use Rattle.bib_scan.proofs.Words.{◌≡◌, length, map, ap, ◌∙◌, subst, name_limit, Text, places_of, IsLayoutOf, note_at, Progress}
+use Rattle.bib_scan.specs.Layout.{placed}
 use Rattle.bib_scan.proofs.LayoutLemmas.{commands_end}
 use Rattle.bib_scan.proofs.NoteLaws.{notes_all}
 use Rattle.bib_scan.proofs.ReadingLaws.{reading_of}

@@ -1,5 +1,4 @@
-use Rattle.std.proofs.Common.{arith}
-use Rattle.bib_spec.specs.Bytes.{name_limit}
+use Rattle.bib_scan.proofs.Words.{arith, name_limit}
 use Rattle.bib_spec.specs.Fault.{too_long}
 use Rattle.bib_scan.proofs.LayoutLemmas.{commands_start}
 use Rattle.bib_scan.proofs.NoteLemmas.{noted_start}

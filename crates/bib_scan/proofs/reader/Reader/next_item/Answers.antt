@@ -1,12 +1,5 @@
-use Rattle.std.proofs.Common.{◌≡◌, ◌≢◌, ℕ, ◌-◌, length, sym, ap, subst, ◌∙◌, arith}
-use Rattle.std.proofs.lemmas.Bool.{eqb-true, eqb-false}
-use Rattle.std.proofs.lemmas.List.{length-append}
-use Rattle.bib_spec.specs.Bytes.{name_limit}
-use Rattle.bib_spec.specs.Fault.{IsReadFault, no_memory}
-use Rattle.bib_spec.specs.Text.{Text}
-use Rattle.bib_scan.specs.Code.{halt_of}
-use Rattle.bib_scan.specs.declared.layout.Span.{Span}
-use Rattle.bib_scan.specs.Progress.{Progress, IsItemOf, AreAllOf}
+use Rattle.bib_scan.proofs.Words.{◌≡◌, ◌≢◌, ℕ, ◌-◌, length, sym, ap, subst, ◌∙◌, arith, eqb-true, eqb-false, length-append, name_limit, IsReadFault, Text, halt_of, Span, Progress, IsItemOf, AreAllOf}
+use Rattle.bib_spec.specs.Fault.{no_memory}
 use Rattle.bib_scan.proofs.LayoutLemmas.{commands_fault, commands_more}
 use Rattle.bib_scan.proofs.NoteLemmas.{key_within, noted_more}
 use Rattle.bib_scan.proofs.FailsAtLaws.{stops_at}

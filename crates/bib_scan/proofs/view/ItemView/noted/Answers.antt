@@ -1,5 +1,4 @@
-use Rattle.std.proofs.Common.{◌≡◌, ◌≢◌, take, drop, ap, ◌∙◌, arith}
-use Rattle.bib_spec.specs.Text.{is_space, after_run}
+use Rattle.bib_scan.proofs.Words.{◌≡◌, ◌≢◌, take, drop, ap, ◌∙◌, arith, is_space, after_run}
 use Rattle.bib_scan.proofs.NoteLaws.{noted_view}
 use Rattle.bib_scan.proofs.view.ItemView.noted.Goals as goal
 

@@ -1,9 +1,4 @@
-use Rattle.std.proofs.Common.{◌≡◌, ℕ, ◌-◌, length, take, drop, refl, sym, ap, ◌∙◌}
-use Rattle.std.specs.List.{take_while}
-use Rattle.bib_spec.specs.Text.{Text, is_space, after_run}
-use Rattle.bib_spec.specs.Tree.{goes_on_key}
-use Rattle.bib_scan.specs.DelimiterView.{delimiter_view}
-use Rattle.bib_scan.specs.FieldsLeft.{all_fields_left, kind_named, read_head, read_opening}
+use Rattle.bib_scan.proofs.Words.{◌≡◌, ℕ, ◌-◌, length, take, drop, refl, sym, ap, ◌∙◌, take_while, Text, is_space, after_run, goes_on_key, delimiter_view, all_fields_left, kind_named, read_head, read_opening}
 use Rattle.bib_scan.specs.declared.view.Kind.TheVariants as kind
 use Rattle.bib_scan.proofs.HeadLaws.{view_found, plain_view}
 use Rattle.bib_scan.proofs.view.ItemView.of.Goals as goal

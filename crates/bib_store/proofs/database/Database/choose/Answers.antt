@@ -1,11 +1,5 @@
-use Rattle.std.proofs.Common.{ℕ, List, map, Bor, refl, sym, ◌∙◌, ap, subst, arith}
-use Rattle.std.specs.List.{AllByRecursion, AllZip}
-use Rattle.bib_spec.specs.Texts.{Macros, months, macros_at}
-use Rattle.bib_spec.specs.Records.{field_of}
-use Rattle.bib_scan.specs.View.{Field, View}
-use Rattle.bib_definitions.specs.MacrosSeen.{macros_seen}
-use Rattle.bib_store.specs.Gathering.{IsReadable, IsFieldOf, with_fields}
-use Rattle.bib_store.specs.Choosing.{chosen}
+use Rattle.bib_store.proofs.Words.{ℕ, List, map, Bor, refl, sym, ◌∙◌, ap, subst, arith, AllByRecursion, AllZip, Macros, months, macros_at, field_of, View, macros_seen, IsReadable, IsFieldOf, with_fields, chosen}
+use Rattle.bib_scan.specs.View.{Field}
 use Rattle.bib_store.proofs.EntryItems.{IsEntryAt, entry_at, entry_within}
 use Rattle.bib_store.proofs.ReadableFields.{fields_zip, fields_readable, seen_at, gathered_of}
 use Rattle.bib_store.proofs.database.Database.choose.Goals as goal

@@ -1,7 +1,4 @@
-use Rattle.std.proofs.Common.{◌∙◌, ◌++◌, ℕ, List, map, Bor, sym, ap}
-use Rattle.bib_spec.specs.Text.{Text}
-use Rattle.bib_spec.specs.Records.{RecordField, entries_of, fields_at, missing}
-use Rattle.bib_store.specs.Choosing.{chosen}
+use Rattle.bib_store.proofs.Words.{◌∙◌, ◌++◌, ℕ, List, map, Bor, sym, ap, Text, RecordField, entries_of, fields_at, missing, chosen}
 use Rattle.bib_store.proofs.Inherited.{rest_whole, rest_more, rest_none, rest_done}
 use Rattle.bib_store.proofs.database.Database.choose_inherited.Goals as goal
 

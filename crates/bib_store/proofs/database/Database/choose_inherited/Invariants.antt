@@ -1,7 +1,4 @@
-use Rattle.std.proofs.Common.{◌≡◌, List, map}
-use Rattle.bib_spec.specs.Records.{RecordField, entries_of}
-use Rattle.bib_store.specs.Choosing.{chosen}
-use Rattle.bib_store.specs.Meaning.{OfReading, IsEntryNumber}
+use Rattle.bib_store.proofs.Words.{◌≡◌, List, map, RecordField, entries_of, chosen, OfReading, IsEntryNumber}
 use Rattle.bib_store.proofs.Inherited.{with_lineage, with_rest}
 use Rattle.bib_store.proofs.database.Database.choose_inherited.Given as goal
 

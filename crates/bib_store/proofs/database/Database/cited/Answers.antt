@@ -1,5 +1,5 @@
-use Rattle.std.proofs.Common.{ℕ, ◌<◌, List, length, All, sym, ◌∙◌, subst}
-use Rattle.bib_spec.specs.Records.{entries_of}
+use Rattle.bib_store.proofs.Words.{ℕ, ◌<◌, List, length, sym, ◌∙◌, subst, entries_of}
+use Rattle.std.proofs.Common.{All}
 use Rattle.bib_store.proofs.Citations.{found_within}
 use Rattle.bib_store.proofs.database.Database.cited.Goals as goal
 

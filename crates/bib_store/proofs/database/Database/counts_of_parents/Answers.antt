@@ -1,7 +1,5 @@
-use Rattle.std.proofs.Common.{ℕ, ◌≡◌, ◌<◌, ◌+◌, List, Vec, Global, get_or, set, length, take, sym, ap, ◌∙◌, subst, arith}
-use Rattle.std.proofs.lemmas.List.{get_or_default, length-set}
-use Rattle.bib_spec.specs.Records.{entries_of}
-use Rattle.bib_store.specs.Citing.{AreCounts}
+use Rattle.bib_store.proofs.Words.{ℕ, ◌≡◌, ◌<◌, ◌+◌, List, get_or, set, length, take, sym, ap, ◌∙◌, subst, arith, get_or_default, length-set, entries_of, AreCounts}
+use Rattle.std.proofs.Common.{Vec, Global}
 use Rattle.bib_store.proofs.Citations.{counts_more, counts_same, count_small}
 use Rattle.bib_store.proofs.database.Database.counts_of_parents.Goals as goal
 use Rattle.bib_store.proofs.database.Database.counts_of_parents.Goals.{in-Some, in_default}

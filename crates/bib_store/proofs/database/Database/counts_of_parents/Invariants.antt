@@ -1,7 +1,4 @@
-use Rattle.std.proofs.Common.{◌≡◌, length, take}
-use Rattle.bib_spec.specs.Records.{entries_of}
-use Rattle.bib_store.specs.Meaning.{OfReading}
-use Rattle.bib_store.specs.Citing.{AreCounts}
+use Rattle.bib_store.proofs.Words.{◌≡◌, length, take, entries_of, OfReading, AreCounts}
 use Rattle.bib_store.proofs.database.Database.counts_of_parents.Given as goal
 
 abbrev pub invariant-loop-n : goal.invariant-loop-n

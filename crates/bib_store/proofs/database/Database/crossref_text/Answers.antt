@@ -1,5 +1,4 @@
-use Rattle.std.proofs.Common.{◌∙◌, map}
-use Rattle.bib_spec.specs.Records.{entries_of, keys_of, crossref_text}
+use Rattle.bib_store.proofs.Words.{◌∙◌, map, entries_of, keys_of, crossref_text}
 use Rattle.bib_store.proofs.KeptItems.{kept_as}
 use Rattle.bib_store.proofs.CrossrefTexts.{crossref_is}
 use Rattle.bib_store.proofs.database.Database.crossref_text.Goals as goal

@@ -1,4 +1,4 @@
-use Rattle.std.proofs.Common.{ℕ, ◌∙◌, length, ap}
+use Rattle.bib_store.proofs.Words.{ℕ, ◌∙◌, length, ap}
 use Rattle.bib_store.proofs.KeptItems.{kept_as}
 use Rattle.bib_store.proofs.EntryItems.{length-entry_numbers}
 use Rattle.bib_store.proofs.database.Database.entry_count.Goals as goal

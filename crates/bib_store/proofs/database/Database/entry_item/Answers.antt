@@ -1,4 +1,5 @@
-use Rattle.std.proofs.Common.{◌<◌, ℕ, ◌∙◌, List, length, slice_get, sym, ap, subst}
+use Rattle.bib_store.proofs.Words.{◌<◌, ℕ, ◌∙◌, List, length, sym, ap, subst}
+use Rattle.std.proofs.Common.{slice_get}
 use Rattle.bib_store.proofs.KeptItems.{kept_as, kept_reading}
 use Rattle.bib_store.proofs.EntryItems.{number_of_entry}
 use Rattle.bib_store.proofs.database.Database.entry_item.Goals as goal

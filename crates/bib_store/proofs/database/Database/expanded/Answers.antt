@@ -1,7 +1,4 @@
-use Rattle.std.proofs.Common.{◌≡◌, List, ◌++◌, Some, ◌∙◌, ap}
-use Rattle.bib_spec.specs.Text.{folded}
-use Rattle.bib_spec.specs.Texts.{months, macros_at}
-use Rattle.bib_spec.specs.Records.{RecordField, EntryTexts, Record, entries_of, texts_of, fields_at, missing}
+use Rattle.bib_store.proofs.Words.{◌≡◌, List, ◌++◌, Some, ◌∙◌, ap, folded, months, macros_at, RecordField, EntryTexts, Record, entries_of, texts_of, fields_at, missing}
 use Rattle.bib_store.proofs.EntryItems.{IsEntryAt, entry_at}
 use Rattle.bib_store.proofs.GatheredFields.{missing_all}
 use Rattle.bib_store.proofs.Inherited.{fields_along, expanded_along, with_lineage, record_made}

@@ -1,8 +1,5 @@
-use Rattle.std.proofs.Common.{◌≡◌, ℕ, List, [], Some, map, option_map, Bor, ◌∙◌, ap}
-use Rattle.bib_spec.specs.Text.{Text, folded}
-use Rattle.bib_spec.specs.Texts.{months, macros_at}
-use Rattle.bib_spec.specs.Records.{EntryTexts, Record, entries_of, texts_of, fields_at}
-use Rattle.bib_store.specs.Choosing.{chosen, with_chosen}
+use Rattle.bib_store.proofs.Words.{◌≡◌, ℕ, List, [], Some, map, option_map, Bor, ◌∙◌, ap, Text, folded, months, macros_at, EntryTexts, Record, entries_of, texts_of, fields_at, chosen}
+use Rattle.bib_store.specs.Choosing.{with_chosen}
 use Rattle.bib_store.proofs.EntryItems.{IsEntryAt, entry_at}
 use Rattle.bib_store.proofs.GatheredFields.{missing_all}
 use Rattle.bib_store.proofs.Inherited.{fields_along, expanded_along, record_made}

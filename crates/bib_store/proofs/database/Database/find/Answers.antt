@@ -1,6 +1,5 @@
-use Rattle.std.proofs.Common.{map, refl, sym, ◌∙◌}
+use Rattle.bib_store.proofs.Words.{map, refl, sym, ◌∙◌, entries_of, keys_of, crossref_text}
 use Rattle.bib_store.proofs.KeptItems.{kept_as}
-use Rattle.bib_spec.specs.Records.{entries_of, keys_of, crossref_text}
 use Rattle.bib_store.proofs.database.Database.find.Goals as goal
 
 pub returns-in-Some-clause-found : goal.returns-in-Some-clause-found

@@ -1,6 +1,4 @@
-use Rattle.std.proofs.Common.{ℕ, ◌≡◌, ◌<◌, List, get_or, length, sym, subst, arith}
-use Rattle.bib_spec.specs.Text.{Text}
-use Rattle.bib_spec.specs.Records.{entries_of}
+use Rattle.bib_store.proofs.Words.{ℕ, ◌≡◌, ◌<◌, List, get_or, length, sym, subst, arith, Text, entries_of}
 use Rattle.bib_store.proofs.Citations.{found_more, unknown_more, found_all}
 use Rattle.bib_store.proofs.database.Database.find_all.Goals as goal
 use Rattle.bib_store.proofs.database.Database.find_all.Goals.{in-Ok+in_ok-push-in-Ok, in-Err+in_ok-push-in-Err}

@@ -1,5 +1,4 @@
-use Rattle.bib_spec.specs.Records.{entries_of}
-use Rattle.bib_store.specs.Meaning.{OfReading}
+use Rattle.bib_store.proofs.Words.{entries_of, OfReading}
 use Rattle.bib_store.proofs.Citations.{AreFound}
 use Rattle.bib_store.proofs.database.Database.find_all.Given as goal
 

@@ -1,9 +1,5 @@
-use Rattle.std.proofs.Common.{List, sym, ◌∙◌, ap, subst, arith}
-use Rattle.std.specs.List.{AllByRecursion, AllZip}
-use Rattle.bib_spec.specs.Texts.{Macros, months, macros_at}
-use Rattle.bib_spec.specs.Records.{RecordField}
-use Rattle.bib_scan.specs.View.{Field, View}
-use Rattle.bib_store.specs.Gathering.{IsReadable, IsFieldOf}
+use Rattle.bib_store.proofs.Words.{List, sym, ◌∙◌, ap, subst, arith, AllByRecursion, AllZip, Macros, months, macros_at, RecordField, View, IsReadable, IsFieldOf}
+use Rattle.bib_scan.specs.View.{Field}
 use Rattle.bib_store.proofs.EntryItems.{IsEntryAt, entry_at, entry_within}
 use Rattle.bib_store.proofs.ReadableFields.{fields_zip, fields_readable, seen_at, gathered_of}
 use Rattle.bib_store.proofs.database.Database.gather.Goals as goal

@@ -1,5 +1,4 @@
-use Rattle.std.proofs.Common.{◌∙◌, ◌+◌, sym, ap}
-use Rattle.bib_spec.specs.Records.{entries_of}
+use Rattle.bib_store.proofs.Words.{◌∙◌, ◌+◌, sym, ap, entries_of}
 use Rattle.bib_store.proofs.Inherited.{with_rest, rest_whole, rest_more, rest_none, rest_done}
 use Rattle.bib_store.proofs.database.Database.gather_inherited.Goals as goal
 

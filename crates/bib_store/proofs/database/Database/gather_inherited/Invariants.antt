@@ -1,7 +1,4 @@
-use Rattle.std.proofs.Common.{◌≡◌}
-use Rattle.bib_spec.specs.Records.{entries_of}
-use Rattle.bib_store.specs.Gathering.{AreTaken}
-use Rattle.bib_store.specs.Meaning.{OfReading, IsEntryNumber}
+use Rattle.bib_store.proofs.Words.{◌≡◌, entries_of, AreTaken, OfReading, IsEntryNumber}
 use Rattle.bib_store.proofs.Inherited.{with_lineage, with_rest}
 use Rattle.bib_store.proofs.database.Database.gather_inherited.Given as goal
 

@@ -1,6 +1,5 @@
-use Rattle.std.proofs.Common.{map}
+use Rattle.bib_store.proofs.Words.{map, entries_of, keys_of, crossref_text}
 use Rattle.bib_store.proofs.KeptItems.{kept_as}
-use Rattle.bib_spec.specs.Records.{entries_of, keys_of, crossref_text}
 use Rattle.bib_store.proofs.database.Database.holders.Goals as goal
 
 pub returns : goal.returns

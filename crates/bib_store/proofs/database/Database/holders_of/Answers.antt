@@ -1,7 +1,6 @@
-use Rattle.std.proofs.Common.{map}
+use Rattle.bib_store.proofs.Words.{map, entries_of, keys_of, crossref_text}
 use Rattle.std.proofs.lemmas.Option.{IfSome_then}
 use Rattle.bib_store.proofs.KeptItems.{kept_as}
-use Rattle.bib_spec.specs.Records.{entries_of, keys_of, crossref_text}
 use Rattle.bib_store.proofs.database.Database.holders_of.Goals as goal
 
 pub returns-clause-first : goal.returns-clause-first

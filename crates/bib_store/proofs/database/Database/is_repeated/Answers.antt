@@ -1,7 +1,4 @@
-use Rattle.std.proofs.Common.{ℕ, false, nat_lt, Option, sym, ap, ◌∙◌}
-use Rattle.std.specs.Option.{option_map_or}
-use Rattle.bib_spec.specs.Texts.{months, macros_at}
-use Rattle.bib_spec.specs.Records.{texts_of, entries_of, entry_named}
+use Rattle.bib_store.proofs.Words.{ℕ, false, nat_lt, Option, sym, ap, ◌∙◌, option_map_or, months, macros_at, texts_of, entries_of, entry_named}
 use Rattle.bib_store.proofs.EntryItems.{entry_at, key_seen}
 use Rattle.bib_store.proofs.RepeatedKeys.{repeated-first}
 use Rattle.bib_store.proofs.database.Database.is_repeated.Goals as goal

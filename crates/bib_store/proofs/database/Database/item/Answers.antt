@@ -1,7 +1,5 @@
-use Rattle.std.proofs.Common.{◌≡◌, List, [], Some, slice_get, sym, ap, ◌∙◌, arith}
-use Rattle.std.proofs.lemmas.Option.{slice_get-get_or}
-use Rattle.bib_scan.specs.declared.note.Note.{Note}
-use Rattle.bib_items.specs.Items.{item, item_at}
+use Rattle.bib_store.proofs.Words.{◌≡◌, List, [], Some, sym, ap, ◌∙◌, arith, slice_get-get_or, Note, item, item_at}
+use Rattle.std.proofs.Common.{slice_get}
 use Rattle.bib_store.proofs.KeptItems.{kept_as, count_kept, item_seen}
 use Rattle.bib_store.proofs.database.Database.item.Goals as goal
 

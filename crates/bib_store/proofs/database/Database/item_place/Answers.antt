@@ -1,7 +1,4 @@
-use Rattle.std.proofs.Common.{ℕ, ◌+◌, length, ap, arith, length-append}
-use Rattle.std.specs.List.{flat_map}
-use Rattle.bib_items.specs.Items.{kept_bytes}
-use Rattle.bib_items.proofs.Walks.{weight-take}
+use Rattle.bib_store.proofs.Words.{ℕ, ◌+◌, length, ap, arith, length-append, flat_map, kept_bytes, weight-take}
 use Rattle.bib_store.proofs.KeptItems.{kept_as, start_kept}
 use Rattle.bib_store.proofs.database.Database.item_place.Goals as goal
 

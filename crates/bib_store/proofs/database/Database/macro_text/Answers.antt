@@ -1,7 +1,5 @@
-use Rattle.std.proofs.Common.{◌≡◌, Some, sym, ap, subst, ◌∙◌}
+use Rattle.bib_store.proofs.Words.{◌≡◌, Some, sym, ap, subst, ◌∙◌, folded, Macros, months, macros_at}
 use Rattle.std.specs.Option.{option_copied}
-use Rattle.bib_spec.specs.Text.{folded}
-use Rattle.bib_spec.specs.Texts.{Macros, months, macros_at}
 use Rattle.bib_store.proofs.KeptItems.{kept_reading}
 use Rattle.bib_store.proofs.ShortTexts.{IsShort, seen_short}
 use Rattle.bib_store.proofs.database.Database.macro_text.Goals as goal

@@ -1,4 +1,4 @@
-use Rattle.std.proofs.Common.{◌∙◌}
+use Rattle.bib_store.proofs.Words.{◌∙◌}
 use Rattle.bib_store.proofs.KeptItems.{kept_as}
 use Rattle.bib_store.proofs.database.Database.macros_at.Goals as goal
 

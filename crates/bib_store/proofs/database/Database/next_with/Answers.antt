@@ -1,4 +1,4 @@
-use Rattle.std.proofs.Common.{arith}
+use Rattle.bib_store.proofs.Words.{arith}
 use Rattle.bib_store.proofs.KeptItems.{kept_as, kept_reading, count_kept}
 use Rattle.bib_store.proofs.PassedItems.{lack-kept}
 use Rattle.bib_store.proofs.database.Database.next_with.Goals as goal

@@ -1,6 +1,4 @@
-use Rattle.std.proofs.Common.{List, ⊎_elim, sym, subst}
-use Rattle.bib_scan.specs.declared.note.Note.{Note}
-use Rattle.bib_store.specs.Beside.{AreNotesOf}
+use Rattle.bib_store.proofs.Words.{List, ⊎_elim, sym, subst, Note, AreNotesOf}
 use Rattle.bib_store.proofs.OpenedFiles.{taken_file, taken_kept, taken_notes, no_notes}
 use Rattle.bib_store.proofs.database.Database.of_items.Goals as goal
 

@@ -1,4 +1,4 @@
-use Rattle.std.proofs.lemmas.Result.{err_from_is_err_and}
+use Rattle.bib_store.proofs.Words.{err_from_is_err_and}
 use Rattle.bib_store.proofs.database.Database.open_file.Goals as goal
 
 pub returns-in_err-front-clause-fault : goal.returns-in_err-front-clause-fault

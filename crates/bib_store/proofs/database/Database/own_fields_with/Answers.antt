@@ -1,6 +1,4 @@
-use Rattle.std.proofs.Common.{◌∙◌, ℕ, List, [], map, Bor, ap}
-use Rattle.bib_spec.specs.Records.{RecordField, entries_of, fields_at}
-use Rattle.bib_store.specs.Choosing.{chosen}
+use Rattle.bib_store.proofs.Words.{◌∙◌, ℕ, List, [], map, Bor, ap, RecordField, entries_of, fields_at, chosen}
 use Rattle.bib_store.proofs.GatheredFields.{missing_all}
 use Rattle.bib_store.proofs.database.Database.own_fields_with.Goals as goal
 

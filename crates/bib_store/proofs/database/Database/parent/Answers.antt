@@ -1,5 +1,4 @@
-use Rattle.std.proofs.Common.{sym, ◌∙◌}
-use Rattle.bib_spec.specs.Records.{entries_of}
+use Rattle.bib_store.proofs.Words.{sym, ◌∙◌, entries_of}
 use Rattle.bib_spec.proofs.Parents.{target_within}
 use Rattle.bib_store.proofs.database.Database.parent.Goals as goal
 

@@ -1,7 +1,5 @@
-use Rattle.std.proofs.Common.{◌<◌, ℕ, List, length, slice_get, ◌∙◌, sym, ap, subst, arith}
-use Rattle.std.proofs.lemmas.Result.{IfOk-weaker}
-use Rattle.bib_definitions.specs.MacrosSeen.{macros_seen}
-use Rattle.bib_store.specs.Stored.{file_of}
+use Rattle.bib_store.proofs.Words.{◌<◌, ℕ, List, length, ◌∙◌, sym, ap, subst, arith, IfOk-weaker, macros_seen, file_of}
+use Rattle.std.proofs.Common.{slice_get}
 use Rattle.bib_store.proofs.KeptItems.{kept_as, kept_reading}
 use Rattle.bib_store.proofs.EntryItems.{number_of_preamble, preamble_within}
 use Rattle.bib_store.proofs.PreambleTexts.{preamble_read, preamble_short, preamble_says}

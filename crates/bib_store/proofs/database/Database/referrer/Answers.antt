@@ -1,4 +1,4 @@
-use Rattle.bib_spec.specs.Records.{entries_of, keys_of}
+use Rattle.bib_store.proofs.Words.{entries_of, keys_of}
 use Rattle.bib_store.specs.Tables.{crossrefs_of}
 use Rattle.bib_store.proofs.KeptItems.{kept_as}
 use Rattle.bib_store.proofs.database.Database.referrer.Goals as goal

@@ -1,5 +1,4 @@
-use Rattle.std.proofs.Common.{subst}
-use Rattle.bib_spec.specs.Pieces.{Fit}
+use Rattle.bib_store.proofs.Words.{subst, Fit}
 use Rattle.bib_store.proofs.database.Database.splice_runs.Goals as goal
 
 pub returns-clause-fit : goal.returns-clause-fit

@@ -1,7 +1,5 @@
-use Rattle.std.proofs.Common.{length, sym, ◌∙◌, ap}
-use Rattle.std.proofs.lemmas.Result.{err_from_is_err_and}
+use Rattle.bib_store.proofs.Words.{length, sym, ◌∙◌, ap, err_from_is_err_and, Text}
 use Rattle.std.specs.Option.{unwrap_or}
-use Rattle.bib_spec.specs.Text.{Text}
 use Rattle.bib_store.proofs.OpenedFiles.{no_notes}
 use Rattle.bib_store.proofs.SplicedFiles.{after_splice, after_refusal}
 use Rattle.bib_store.proofs.database.Database.splice_window.Goals as goal

@@ -1,6 +1,5 @@
-use Rattle.std.proofs.Common.{ℕ, Bool, ◌≡◌, ◌<◌, List, length, All, sym, ap, ◌∙◌, subst, arith}
-use Rattle.bib_spec.specs.Records.{entries_of, with_parents}
-use Rattle.bib_store.specs.Citing.{AreMarks, AreCounts}
+use Rattle.bib_store.proofs.Words.{ℕ, Bool, ◌≡◌, ◌<◌, List, length, sym, ap, ◌∙◌, subst, arith, entries_of, with_parents, AreMarks, AreCounts}
+use Rattle.std.proofs.Common.{All}
 use Rattle.bib_store.proofs.Citations.{refilled, once_within, with_parents_is}
 use Rattle.bib_store.proofs.database.Database.with_parents.Goals as goal
 

@@ -1,7 +1,4 @@
-use Rattle.std.proofs.Common.{List, ◌∷◌, [], ◌++◌, sym, ◌∙◌, ap, subst}
-use Rattle.bib_spec.specs.Text.{Text}
-use Rattle.bib_spec.specs.Records.{RecordField}
-use Rattle.bib_store.specs.Gathering.{AreTaken}
+use Rattle.bib_store.proofs.Words.{List, ◌∷◌, [], ◌++◌, sym, ◌∙◌, ap, subst, Text, RecordField, AreTaken}
 use Rattle.bib_store.proofs.GatheredFields.{taken_more}
 use Rattle.bib_store.proofs.gathering.Gathered.add.Goals as goal
 

@@ -1,4 +1,4 @@
-use Rattle.bib_definitions.specs.MacrosSeen.{macros_seen}
+use Rattle.bib_store.proofs.Words.{macros_seen}
 use Rattle.bib_store.proofs.GatheredFields.{IsGathering}
 use Rattle.bib_store.proofs.gathering.Gathered.add_all.Given as goal
 

@@ -1,7 +1,6 @@
-use Rattle.std.proofs.Common.{Option, IfSome, subst}
+use Rattle.bib_store.proofs.Words.{Option, subst, Note, err_from}
+use Rattle.std.proofs.Common.{IfSome}
 use Rattle.bib_scan.specs.Note.{IsNoteOf}
-use Rattle.bib_scan.specs.declared.note.Note.{Note}
-use Rattle.bib_spec.proofs.Results.{err_from}
 use Rattle.bib_store.proofs.tables.Tables.add.Goals as goal
 
 pub returns-in-Some-clause-too_long : goal.returns-in-Some-clause-too_long

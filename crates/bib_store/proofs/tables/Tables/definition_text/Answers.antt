@@ -1,7 +1,4 @@
-use Rattle.std.proofs.Common.{◌∙◌, ◌≤◌, length, ap, subst}
-use Rattle.bib_spec.specs.Text.{Text}
-use Rattle.bib_spec.specs.Texts.{Macros, raw_text, raw_limit}
-use Rattle.bib_store.specs.ItemTexts.{own_text}
+use Rattle.bib_store.proofs.Words.{◌∙◌, ◌≤◌, length, ap, subst, Text, Macros, raw_text, raw_limit, own_text}
 use Rattle.bib_store.proofs.tables.Tables.definition_text.Goals as goal
 
 pub returns-in-Ok-clause-short : goal.returns-in-Ok-clause-short

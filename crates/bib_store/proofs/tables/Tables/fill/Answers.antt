@@ -1,10 +1,5 @@
-use Rattle.std.proofs.Common.{◌+◌, ℕ, length, inl, inr, ⊎_elim, refl, ◌∙◌, ap, subst, arith}
-use Rattle.bib_spec.specs.Fault.{no_memory}
-use Rattle.bib_spec.specs.Text.{Text}
-use Rattle.bib_spec.proofs.Results.{ok_always}
-use Rattle.bib_scan.specs.Layout.{IsLayoutOf}
-use Rattle.bib_scan.specs.Progress.{IsItemOf, AreAllOf}
-use Rattle.bib_store.specs.Meaning.{IsTextFault}
+use Rattle.bib_store.proofs.Words.{◌+◌, ℕ, length, inl, inr, ⊎_elim, refl, ◌∙◌, ap, subst, arith, no_memory, Text, ok_always, IsLayoutOf, IsItemOf, AreAllOf}
+use Rattle.bib_store.specs.Readings.{IsTextFault}
 use Rattle.bib_store.proofs.WalkedFiles.{read_same, read_more, read_over, read_all, with_len, fault_cases}
 use Rattle.bib_store.proofs.tables.Tables.fill.Goals as goal
 

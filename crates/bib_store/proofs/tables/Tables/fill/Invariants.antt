@@ -1,5 +1,4 @@
-use Rattle.std.proofs.Common.{◌≡◌, ◌≤◌, ◌+◌, length}
-use Rattle.bib_spec.specs.Bytes.{file_limit}
+use Rattle.bib_store.proofs.Words.{◌≡◌, ◌≤◌, ◌+◌, length, file_limit}
 use Rattle.bib_store.proofs.WalkedFiles.{ReadTo}
 use Rattle.bib_store.proofs.tables.Tables.fill.Given as goal
 

@@ -1,6 +1,4 @@
-use Rattle.std.proofs.Common.{◌∙◌, sym, ap}
-use Rattle.bib_scan.specs.View.{View}
-use Rattle.bib_spec.proofs.Results.{err_from}
+use Rattle.bib_store.proofs.Words.{◌∙◌, sym, ap, View, err_from}
 use Rattle.bib_store.proofs.tables.Tables.insert.Goals as goal
 
 pub returns-in-Entry-clause-too_long : goal.returns-in-Entry-clause-too_long

@@ -1,8 +1,4 @@
-use Rattle.std.proofs.Common.{◌∙◌, length, sym, subst}
-use Rattle.std.proofs.lemmas.Result.{err_from_is_err_and}
-use Rattle.bib_spec.specs.Text.{Text}
-use Rattle.bib_scan.specs.View.{field_seen}
-use Rattle.bib_store.specs.Bounds.{Admits}
+use Rattle.bib_store.proofs.Words.{◌∙◌, length, sym, subst, err_from_is_err_and, Text, field_seen, Admits}
 use Rattle.bib_store.proofs.TableSteps.{definition_insertion, definition_over}
 use Rattle.bib_store.proofs.tables.Tables.insert_definition.Goals as goal
 

@@ -1,12 +1,4 @@
-use Rattle.std.proofs.Common.{length, sym, insert, subst, refl}
-use Rattle.std.proofs.lemmas.Result.{err_from_is_err_and}
-use Rattle.bib_spec.specs.Text.{Text}
-use Rattle.bib_entries.specs.EntryTable.{IsTableOf}
-use Rattle.bib_spec.proofs.Results.{err_always}
-use Rattle.bib_definitions.specs.Definitions.{AreAtMost}
-use Rattle.bib_definitions.specs.MacrosSeen.{macros_seen}
-use Rattle.bib_store.specs.Bounds.{Admits}
-use Rattle.bib_store.specs.declared.tables.Tables.{Tables}
+use Rattle.bib_store.proofs.Words.{length, sym, insert, subst, refl, err_from_is_err_and, Text, IsTableOf, err_always, AreAtMost, macros_seen, Admits, Tables}
 use Rattle.bib_store.proofs.TableSteps.{entry_insertion, entry_over, named_kept}
 use Rattle.bib_store.proofs.tables.Tables.insert_entry.Goals as goal
 

@@ -1,7 +1,4 @@
-use Rattle.std.proofs.Common.{true, length, refl, subst}
-use Rattle.bib_spec.specs.Text.{Text}
-use Rattle.bib_store.specs.Bounds.{Admits}
-use Rattle.bib_store.specs.declared.tables.Tables.{Tables}
+use Rattle.bib_store.proofs.Words.{true, length, refl, subst, Text, Admits, Tables}
 use Rattle.bib_store.proofs.TableSteps.{preamble_insertion}
 use Rattle.bib_store.proofs.tables.Tables.insert_preamble.Goals as goal
 

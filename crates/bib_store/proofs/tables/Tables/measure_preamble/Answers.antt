@@ -1,6 +1,4 @@
-use Rattle.std.proofs.Common.{◌∙◌, sym}
-use Rattle.bib_scan.specs.View.{field_seen}
-use Rattle.bib_spec.proofs.Results.{ok_from, err_from}
+use Rattle.bib_store.proofs.Words.{◌∙◌, sym, field_seen, ok_from, err_from}
 use Rattle.bib_store.proofs.TableSteps.{preamble_fits, preamble_over}
 use Rattle.bib_store.proofs.tables.Tables.measure_preamble.Goals as goal
 

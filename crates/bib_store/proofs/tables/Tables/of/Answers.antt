@@ -1,4 +1,4 @@
-use Rattle.std.proofs.Common.{◌-◌, ◌<◌, ◌≤◌, [], length, inl, inr, ⊎_elim, arith}
+use Rattle.bib_store.proofs.Words.{◌-◌, ◌<◌, ◌≤◌, [], length, inl, inr, ⊎_elim, arith}
 use Rattle.bib_store.proofs.WalkedFiles.{walk_start, walk_more, walk_over, walk_all, with_len, kept_inside, fault_cases}
 use Rattle.bib_store.proofs.tables.Tables.of.Goals as goal
 

@@ -1,4 +1,4 @@
-use Rattle.bib_items.specs.Items.{without_range}
+use Rattle.bib_store.proofs.Words.{without_range}
 use Rattle.bib_store.proofs.WalkedFiles.{WalkedTo}
 use Rattle.bib_store.proofs.tables.Tables.of.Given as goal
 

@@ -1,4 +1,4 @@
-use Rattle.std.proofs.Common.{refl}
+use Rattle.bib_store.proofs.Words.{refl}
 use Rattle.bib_store.proofs.tables.Tables.prepare.Goals as goal
 
 pub returns : goal.returns

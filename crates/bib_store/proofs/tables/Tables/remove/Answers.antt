@@ -1,6 +1,4 @@
-use Rattle.std.proofs.Common.{◌∙◌, Some, refl, sym, ap}
-use Rattle.bib_scan.specs.View.{View}
-use Rattle.bib_store.specs.declared.tables.Tables.{Tables}
+use Rattle.bib_store.proofs.Words.{◌∙◌, Some, refl, sym, ap, View, Tables}
 use Rattle.bib_store.proofs.TableSteps.{entry_removal, preamble_removal, comment_removal}
 use Rattle.bib_store.proofs.tables.Tables.remove.Goals as goal
 

@@ -1,6 +1,4 @@
-use Rattle.std.proofs.Common.{◌∙◌, refl, sym}
-use Rattle.bib_scan.specs.View.{field_seen}
-use Rattle.bib_store.specs.declared.tables.Tables.{Tables}
+use Rattle.bib_store.proofs.Words.{◌∙◌, refl, sym, field_seen, Tables}
 use Rattle.bib_store.proofs.TableSteps.{definition_removal}
 use Rattle.bib_store.proofs.tables.Tables.remove_definition.Goals as goal
 

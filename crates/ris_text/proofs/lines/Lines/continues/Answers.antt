@@ -1,8 +1,5 @@
-use Rattle.std.proofs.Common.{◌≢◌, not, length, sym, ap, ◌∙◌, arith}
-use Rattle.std.proofs.lemmas.Bool.{eqb-false}
-use Rattle.bib_spec.specs.Text.{Text}
-use Rattle.ris_text.specs.Lines.{lines_from, line_texts}
-use Rattle.ris_text.specs.Code.{continues}
+use Rattle.ris_text.proofs.Words.{◌≢◌, length, sym, ap, ◌∙◌, arith, eqb-false, Text, lines_from, line_texts, continues}
+use Rattle.std.proofs.Common.{not}
 use Rattle.ris_text.proofs.LineEnds.{continues_at}
 use Rattle.ris_text.proofs.lines.Lines.continues.Goals as goal
 

@@ -1,4 +1,4 @@
-use Rattle.std.proofs.Common.{length, ap, arith}
+use Rattle.ris_text.proofs.Words.{length, ap, arith}
 use Rattle.ris_text.proofs.LineLemmas.{length-lines_of}
 use Rattle.ris_text.proofs.RestLaws.{all-left}
 use Rattle.ris_text.proofs.reading.Unread.of.Goals as goal

@@ -1,6 +1,0 @@
-use Rattle.std.proofs.Common.{◌≡◌, length}
-use Rattle.bib_order.specs.Orders.{IsTold}
-use Rattle.bib_order.proofs.paged.make_place.Given as goal
-
-abbrev pub invariant-grow : goal.invariant-grow
-invariant-grow l = IsTold l.fn.homes.items l.homes.items × (length l.homes.items ≡ l.k)
