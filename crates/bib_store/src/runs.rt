@@ -39,16 +39,28 @@ impl<T: Drop> From<AllocFailed<T>> for RunFault {
     }
 }
 
-/// At most this many pieces are split into runs. Each piece takes a few steps for each page of items, so that with more
-/// pieces it costs less to read what is between them.
-const PIECES_LIMIT: usize = 256;
+/// This many runs are read apart in a file of any length.
+const FEW_RUNS: usize = 64;
 
-/// At most this many runs are read apart.
-const RUNS_LIMIT: usize = 64;
+/// In a long file, as many runs are read apart as it has parts of this many bytes: a run takes about as long as reading half as
+/// many bytes between runs.
+const BYTES_FOR_A_RUN: usize = 4096;
+
+/// No more runs are read apart: each takes some 500 bytes of the stack.
+const MOST_RUNS: usize = 1024;
+
+/// More pieces for each run that may be read apart are not split into runs, since looking at each takes a few steps for each
+/// page of items.
+const PIECES_FOR_A_RUN: usize = 4;
+
+/// How many runs are read apart at most. Only time depends on it.
+fn runs_limit(file_len: usize) -> usize {
+    (file_len / BYTES_FOR_A_RUN).clamp(FEW_RUNS, MOST_RUNS)
+}
 
 /// The number of the first piece of each run. The pieces of a run touch neighbouring items; between two runs there is an
-/// item that no piece touches. It is refused if runs are not to be read apart: there is only one, or there are more than 64.
-/// Only time depends on where runs begin.
+/// item that no piece touches. It is refused if runs are not to be read apart: there is only one, or there are many. Only time
+/// depends on where runs begin.
 pub(crate) fn run_starts<L: ItemList>(
     alloc: Global,
     front: &[u8],
@@ -59,14 +71,15 @@ pub(crate) fn run_starts<L: ItemList>(
     requires len { file_len ≡ length (file_of front.now (L.items items.now)) }
     requires short { file_len ≤ file_limit }
 {
+    let most = runs_limit(file_len);
     // one piece makes one run
-    if pieces.len() < 2 || pieces.len() > PIECES_LIMIT {
+    if pieces.len() < 2 || pieces.len() / PIECES_FOR_A_RUN > most {
         return Err(RunFault::NotApart);
     }
     let mut starts = Vec::new(alloc);
     let mut end = 0;
     'pass: for k in 0..pieces.len() {
-        if starts.len() > RUNS_LIMIT {
+        if starts.len() > most {
             return Err(RunFault::NotApart);
         }
         let window = touched(front, items, file_len, &pieces[k..k + 1]);
@@ -75,7 +88,7 @@ pub(crate) fn run_starts<L: ItemList>(
         }
         end = window.to;
     }
-    if starts.len() < 2 || starts.len() > RUNS_LIMIT {
+    if starts.len() < 2 || starts.len() > most {
         return Err(RunFault::NotApart);
     }
     Ok(starts)
