@@ -122,6 +122,14 @@ def abbreviated(count):
         for n in range(count))
 
 
+def articles_of_one_volume(count, every):
+    """So many articles as long as those of a database, all over which one in so many refers to a volume, which comes last."""
+    return b"".join(
+        ("@article{key%d,\n  author = {%s},\n  title = {%s},\n  note = {%s},\n%s  year = %d\n}\n\n"
+         % (n, people_of(n), text_of(n, 9), text_of(n + 3, 32), "  crossref = {volume},\n" if n % every == 0 else "", 1950 + n % 75)).encode()
+        for n in range(count)) + b"@book{volume, title = {All of it}}\n"
+
+
 def chained_macros(count):
     """So many macros, each defined by the one before, and an entry that uses the last."""
     links = b"".join(b"@string{m%d = m%d}\n" % (n, n - 1) for n in range(1, count))
@@ -175,6 +183,12 @@ def inlinings_from_the_end(count):
 def introductions(count):
     """A script of so many edits: each gives a publisher of a file by rule a name."""
     return b"".join(b"introduce\tp%d\tPublisher %d\n" % (n, n) for n in range(count))
+
+
+def renames_of_one_key(count):
+    """A script of so many edits: each gives the volume another key."""
+    keys = [b"volume"] + [b"volume%d" % n for n in range(count)]
+    return b"".join(b"rename-key\t%s\t%s\n" % pair for pair in zip(keys, keys[1:]))
 
 
 def renames(count):
@@ -393,6 +407,8 @@ CONTENTS = {
     "abbreviated 8": lambda: abbreviated(10000),
     "use 100": lambda: one_macro(100000),
     "use 100 in 4": lambda: one_macro_among_words(100000),
+    "volume 250": lambda: articles_of_one_volume(10000, 40),
+    "volume 2": lambda: articles_of_one_volume(10000, 5000),
     "journal 100": lambda: articles_of_one_journal(100000),
     "journal 5 of 23": lambda: articles_of_one_journal(5000, others=18000),
     "publisher 11": lambda: articles_of_one_publisher(11112),
