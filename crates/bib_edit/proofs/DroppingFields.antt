@@ -4,7 +4,7 @@ use Rattle.bib_edit.proofs.Words.{none-some, All-nil, name_limit, file_limit, Te
 use Rattle.bib_edit.proofs.Words.{IsFirstRefusal, pieces_of, count-yes, count-no, Field, View, view_of, start_of, one_reading, OfReading, entry_numbers, DropField, made_base, IsAllowedEdit, ArePiecesOf, IsRefusal, field_end, item_named, is_field, cut_piece, joins_key, OfItem}
 use Rattle.edit_spec.specs.Edits as edits
 use Rattle.bib_data.specs.declared.edit.Edit.{Edit}
-use Rattle.bib_edit.specs.declared.fault.EditFault.TheVariants.{BadName, NotFound, Ambiguous, WouldMerge}
+use Rattle.bib_edit.specs.declared.fault.EditFault.TheVariants.{NotFound, Ambiguous, WouldMerge}
 use Rattle.bib_edit.proofs.Ranks.{Passes, no_reason, more, is_first, all_clear}
 use Rattle.bib_edit.proofs.NamedEntries.{IsNamedEntry, named-entry, held-item}
 use Rattle.bib_edit.proofs.PieceLists.{within-one_piece}

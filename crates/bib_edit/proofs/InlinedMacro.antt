@@ -1,5 +1,5 @@
 -- Why the inlining of a macro is refused, and that it is not.
-use Rattle.bib_edit.proofs.Words.{◌≡◌, ℕ, ◌+◌, ◌<◌, ◌≤◌, true, false, List, ◌∷◌, length, drop, refl, sym, ◌∙◌, ap, arith, true≢false, both_ways, All-nil, name_limit, file_limit, Text, is_name, IsValue, Reading, Reads, months, Opens, InlineMacro, BadKey, BadName, BadValue, BadPosition, NotFound}
+use Rattle.bib_edit.proofs.Words.{◌≡◌, ℕ, ◌+◌, ◌<◌, ◌≤◌, true, List, ◌∷◌, length, drop, refl, sym, ◌∙◌, ap, arith, true≢false, both_ways, All-nil, name_limit, file_limit, Text, is_name, IsValue, Reading, Reads, months, Opens, InlineMacro, BadKey, BadName, BadValue, BadPosition, NotFound}
 use Rattle.bib_edit.proofs.Words.{Ambiguous, KeyInUse, NameInUse, Referred, WouldMerge, FileTooLong, TextTooLong, definitions, uses, text_of_macro, inline_macro, IsAccepted, IsFirstRefusal, pieces_of, start_of, OfReading, made_base, IsRefusal, IsDefinedAt, IsDefinitionFault, none_defines}
 use Rattle.bib_edit.proofs.Words.{many_define, braced, items_placed, tokens_of, replaced, JoinsCleanly, removal_of, Piece, olds_len, news_len}
 use Rattle.bib_data.specs.declared.edit.Edit.TheVariants as asked

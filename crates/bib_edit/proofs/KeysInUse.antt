@@ -1,6 +1,6 @@
 -- Whether a new key is in use.
-use Rattle.bib_edit.proofs.Words.{◌≡◌, ℕ, ◌+◌, Bool, true, false, not, ◌&&◌, ◌||◌, nat_lt, List, [], ◌∷◌, count_by, ⊎_elim, refl, sym, ◌∙◌, ap, ap₂, arith, list_any, cases_Bool, both_ways, and_from, or_from, false_from_ne_true, true_from_ne_false, ltb-false, Text, folded, same, is_empty, EntryTexts, and_parts}
-use Rattle.bib_edit.proofs.Words.{keys_of, is_named, count-yes, count-no, same-true, true-same, is_awaited}
+use Rattle.bib_edit.proofs.Words.{◌≡◌, Bool, true, false, not, ◌&&◌, ◌||◌, nat_lt, List, [], ◌∷◌, count_by, ⊎_elim, refl, sym, ◌∙◌, ap, ap₂, list_any, cases_Bool, both_ways, and_from, or_from, Text, same, is_empty, EntryTexts, and_parts}
+use Rattle.bib_edit.proofs.Words.{keys_of, is_named, same-true, true-same, is_awaited}
 use Rattle.bib_edit.specs.Dangling.{is_in_use}
 use Rattle.bib_edit.proofs.HeldKeys.{named-same, counted}
 

@@ -1,9 +1,7 @@
 -- The fields of an entry to be added, judged one after another.
 use Rattle.bib_spec.specs.Text.{is_name_within}
-use Rattle.bib_edit.proofs.Words.{◌≡◌, ℕ, ◌+◌, ◌<◌, ◌≤◌, ◌==◌, Bool, true, false, ◌&&◌, ◌||◌, nat_lt, nat_le, List, [], ◌∷◌, ◌++◌, Some, slice_get, get_or, length, take, drop, ⊎_elim, refl, sym, ◌∙◌, ap, ap₂, subst, arith, append-nil, take-append-drop, and-false, list_all, list_any, cases_Bool}
-use Rattle.bib_edit.proofs.Words.{and_parts, both_ways, eqb-true, eqb-false, leb-true, slice_get_read, same_Some, take_all, map-append, list_all-append, name_limit, Text, same, is_name, does_not_begin_with, Reading, IsValueWithin, has_same, names_of, HaveValuesTo, IsLong, AreShortTo}
-use Rattle.bib_edit.proofs.Words.{field_line, lines_of}
-use Rattle.std.proofs.lemmas.List.Concat.{flat_map-append}
+use Rattle.bib_edit.proofs.Words.{◌≡◌, ℕ, ◌+◌, ◌<◌, ◌≤◌, ◌==◌, Bool, true, false, ◌&&◌, ◌||◌, nat_lt, nat_le, List, [], ◌∷◌, ◌++◌, Some, slice_get, get_or, length, take, drop, ⊎_elim, refl, sym, ◌∙◌, ap, subst, arith, take-append-drop, and-false, list_all, list_any, cases_Bool}
+use Rattle.bib_edit.proofs.Words.{and_parts, both_ways, eqb-true, eqb-false, leb-true, slice_get_read, same_Some, map-append, list_all-append, name_limit, Text, same, is_name, does_not_begin_with, Reading, IsValueWithin, has_same, names_of, HaveValuesTo, IsLong, AreShortTo}
 use Rattle.bib_edit.proofs.SeenNames.{take-read}
 
 -- ---- lines

@@ -1,6 +1,6 @@
 -- Lengths of pieces, added up from the front, and of the file that they make.
-use Rattle.bib_edit.proofs.Words.{◌≡◌, ℕ, ◌+◌, ◌<◌, ◌≤◌, List, [], ◌∷◌, drop, length, get_or, sym, ◌∙◌, ap, ap₂, subst, subst₂, arith, length-append, drop_of_length-le, file_limit, Text, Reading, Reads, bytes_of, Record, Piece, Chunk, Kept, Replaced, old_of, pieces_from, Edit, FileTooLong, Refuses}
-use Rattle.bib_edit.proofs.Words.{edited, chunks, pieces_of, chunks-are-files, olds_len, news_len, made_base, IsOpenable, ArePiecesOf, next-read}
+use Rattle.bib_edit.proofs.Words.{◌≡◌, ℕ, ◌+◌, ◌<◌, ◌≤◌, List, [], ◌∷◌, length, sym, ◌∙◌, ap, ap₂, subst, subst₂, arith, length-append, file_limit, Text, Reading, Reads, bytes_of, Record, Piece, Chunk, Kept, Replaced, old_of, pieces_from, Edit, FileTooLong, Refuses}
+use Rattle.bib_edit.proofs.Words.{edited, chunks, pieces_of, chunks-are-files, olds_len, news_len, made_base, IsOpenable, ArePiecesOf}
 use Rattle.bib_data.specs.declared.edit.Edit.{Edit as Asked}
 use Rattle.bib_edit.proofs.AskedEdits.{asked_for}
 use Rattle.bib_edit.proofs.PieceLists.{lengths-edited}

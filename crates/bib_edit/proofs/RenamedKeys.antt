@@ -6,7 +6,7 @@ use Rattle.edit_spec.specs.Edits as edits
 use Rattle.bib_edit.specs.Dangling.{is_in_use}
 use Rattle.bib_data.specs.declared.edit.Edit.{Edit}
 use Rattle.bib_edit.specs.declared.fault.EditFault.{EditFault}
-use Rattle.bib_edit.specs.declared.fault.EditFault.TheVariants.{BadKey, KeyInUse}
+use Rattle.bib_edit.specs.declared.fault.EditFault.TheVariants.{KeyInUse}
 use Rattle.bib_edit.proofs.AskedEdits.{of-rename_key}
 use Rattle.bib_edit.proofs.PieceLengths.{makes-long, makes-short}
 use Rattle.bib_edit.proofs.Ranks.{Passes, no_reason, more, is_first, all_clear}

@@ -1,6 +1,6 @@
 -- Names that are seen one after another, until one is seen a second time.
-use Rattle.bib_edit.proofs.Words.{◌≡◌, ℕ, ◌+◌, ◌<◌, ◌≤◌, Bool, true, false, ◌||◌, List, [], ◌∷◌, ◌++◌, Some, None, is_some, get_or, length, map, take, drop, ⊎_elim, refl, sym, ◌∙◌, ap, ap₂, take-append-drop, or-false, or-true, list_any, bytes_eq, cases_Bool, cond-true, cond-false, take_more}
-use Rattle.bib_edit.proofs.Words.{take_all, map-append, Text, folded, same, has_same, same_comm, value_at, IsWith, list_any-append}
+use Rattle.bib_edit.proofs.Words.{◌≡◌, ℕ, ◌+◌, ◌<◌, Bool, true, false, ◌||◌, List, [], ◌∷◌, ◌++◌, Some, is_some, get_or, length, map, take, drop, ⊎_elim, refl, sym, ◌∙◌, ap, ap₂, take-append-drop, or-false, or-true, list_any, bytes_eq, cases_Bool, cond-true, cond-false, take_more}
+use Rattle.bib_edit.proofs.Words.{map-append, Text, folded, same, has_same, same_comm, value_at, IsWith, list_any-append}
 
 pub take-read : {X : Type 0} (xs : List X) (i : ℕ) (x : X) → i < length xs → x ≡ get_or xs i x → take (i + 1) xs ≡ take i xs ++ x ∷ []
 take-read xs i x lt e = take_more xs i x lt ∙ ap (λ y. take i xs ++ y ∷ []) (sym e)

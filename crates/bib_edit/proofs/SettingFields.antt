@@ -7,7 +7,7 @@ use Rattle.bib_scan.specs.declared.parts.PartSpan.{PartSpan}
 use Rattle.bib_value.specs.Raw.{OfValue}
 use Rattle.bib_data.specs.declared.edit.Edit.{Edit}
 use Rattle.bib_edit.specs.declared.fault.EditFault.{EditFault}
-use Rattle.bib_edit.specs.declared.fault.EditFault.TheVariants.{BadName, BadValue, Ambiguous, FileTooLong, TextTooLong}
+use Rattle.bib_edit.specs.declared.fault.EditFault.TheVariants.{BadValue, Ambiguous, FileTooLong, TextTooLong}
 use Rattle.bib_edit.proofs.Ranks.{Passes, no_reason, more, is_first, all_clear}
 use Rattle.bib_edit.proofs.NamedEntries.{named-entry}
 use Rattle.bib_edit.proofs.PieceLengths.{makes-long, makes-short}

@@ -1,5 +1,5 @@
 -- Seeking the fields of one name, one field after another.
-use Rattle.bib_edit.proofs.Words.{◌≡◌, ℕ, ◌+◌, ◌||◌, nat_lt, Bool, true, false, List, [], ◌∷◌, Option, None, Some, count_by, find, refl, sym, ◌∙◌, ap, arith, last_or, option_or, or-true, or-false, cond-true, cond-false, lt-ltb, Text, count-yes, count-no, Field, is_field}
+use Rattle.bib_edit.proofs.Words.{◌≡◌, ℕ, ◌+◌, ◌||◌, nat_lt, Bool, List, Option, None, Some, count_by, find, last_or, option_or, Text, Field, is_field}
 
 -- the count of fields with the name, with this one
 abbrev pub count_with : Option Field → ℕ → ℕ

@@ -1,6 +1,6 @@
 -- What a session keeps, before and after each of its moves.
 use Rattle.bib_journal.proofs.Words.{◌≡◌, ◌⊎◌, ℕ, ◌+◌, ◌-◌, ◌^◌, ◌≤◌, ◌<◌, List, [], ◌∷◌, ◌++◌, length, min, take, get_or, reverse, Some, sym, ◌∙◌, ap, subst, arith, refl, sum_by, inl, inr, OnOk, length_push, same_from_push, take_more, Text, Piece, Fit, applied, Reading, Reads, bytes_of, Undoes}
-use Rattle.bib_journal.proofs.Words.{IsAccepted, Step, KeptSteps, with_edit, before, Leads, LeadTo, LeadOn, IsAllowed, IsSound, IsFull, Adds, GoesBack, GoesOn, history_of, step_text_len, IsOpenable, lead_to_pop, going-back-undoes, going-on-redoes, Edit, made_base, AsksFor, IsAllowedEdit}
+use Rattle.bib_journal.proofs.Words.{Step, KeptSteps, with_edit, before, Leads, LeadTo, LeadOn, IsAllowed, IsSound, IsFull, Adds, GoesBack, GoesOn, history_of, step_text_len, IsOpenable, lead_to_pop, going-back-undoes, going-on-redoes, Edit, made_base, AsksFor, IsAllowedEdit}
 use Rattle.bib_journal.proofs.Words.{ArePiecesOf, asked_for, has_key_base, kept, SessionState, IsOpenIn, after_edit, new_step, JoinsLast, MakesSteps, LacksRoom, MovesTo, MakesEdit, TakesBack, MakesAgain, OpenStep, NoStep, NewStep, LastStep}
 use Rattle.std.specs.Prelude.{Result, Ok, Err}
 use Rattle.std.specs.List.{slice_get}

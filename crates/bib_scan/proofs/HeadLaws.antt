@@ -1,6 +1,6 @@
 -- The view that is read from left to right is the view of the item.
 use Rattle.bib_scan.proofs.Words.{◌≡◌, ℕ, ◌-◌, true, List, [], ◌∷◌, ◌++◌, length, refl, sym, ap, subst, ◌∙◌, arith, append_assoc, append-nil, not_from_false, not-true, or_parts, cond-true, cond-false, length-append, codes, take_while, AllPass, name_limit, Text, is_space, is_type_byte, same}
-use Rattle.bib_scan.proofs.Words.{after_run, does_not_begin_with, Tree, CommentTree, DefinitionTree, PreambleTree, EntryTree, Head, Opening, Delimiter, Brace, Paren, row_bytes, value_bytes, head_bytes, opening_bytes, open_byte, close_byte, last_comma_bytes, after_key_bytes, tree_bytes, goes_on_key}
+use Rattle.bib_scan.proofs.Words.{after_run, does_not_begin_with, Tree, CommentTree, DefinitionTree, PreambleTree, EntryTree, Head, Opening, Delimiter, Brace, value_bytes, head_bytes, opening_bytes, open_byte, close_byte, after_key_bytes, tree_bytes, goes_on_key}
 use Rattle.bib_scan.proofs.Words.{is_no_keyword, IsHead, IsOpening, IsTree, Field, view_of, fields_left, all_fields_left, read_head, kind_named, read_opening, Kind}
 use Rattle.bib_spec.specs.Tree as tree
 use Rattle.bib_scan.specs.View.{fields_of}

@@ -1,7 +1,7 @@
 -- The note that is taken from left to right is the note of the tree.
 use Rattle.bib_scan.proofs.Words.{◌≡◌, ℕ, ◌+◌, ◌-◌, ◌<◌, ◌≤◌, true, false, eqb, List, [], ◌∷◌, ◌++◌, length, take, drop, map, refl, sym, ap, subst, ◌∙◌, arith, append_assoc, append-nil, Option, Some, None, Result, inl, inr, cases_Bool, cond-true, cond-false, ne_eqb, none-some, same_Some}
 use Rattle.bib_scan.proofs.Words.{length-append, length-drop, take_at, drop_at, find, option_map_or, result_ok, Halt, All-head, All-tail, prefix_len, flat_map, All, comma, name_limit, Text, is_space, is_type_byte, same, after_run, does_not_begin_with, crossref, Row, Tree, CommentTree}
-use Rattle.bib_scan.proofs.Words.{DefinitionTree, PreambleTree, EntryTree, Opening, Delimiter, close_byte, head_bytes, opening_bytes, after_key_bytes, last_comma_bytes, row_bytes, tree_bytes, goes_on_key, IsRow, IsLastComma, IsOpening, IsTree, Item, Reading, item_bytes, IsItem, Reads, Field}
+use Rattle.bib_scan.proofs.Words.{DefinitionTree, PreambleTree, EntryTree, Opening, close_byte, head_bytes, opening_bytes, after_key_bytes, last_comma_bytes, row_bytes, tree_bytes, goes_on_key, IsRow, IsLastComma, IsOpening, IsTree, Item, Reading, item_bytes, IsItem, Reads, Field}
 use Rattle.bib_scan.proofs.Words.{field_after, fields_after, view_of, read_row_field, first_field, all_fields_left, read_head, kind_named, read_opening, is_crossref, left_of_crossref, crossref_left, head_after, read_entry_head, note_from, read_note, note_at, places_of, Note, Kind}
 use Rattle.std.proofs.Common.{option_map}
 use Rattle.std.specs.Prelude.{if◌then◌else◌}

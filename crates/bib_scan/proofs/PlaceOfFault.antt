@@ -1,6 +1,6 @@
 -- For files and values: a text of another kind goes wrong at one place, with exactly one fault; and a text of this kind
 -- that is cut either is of this kind or has ended too early.
-use Rattle.bib_scan.proofs.Words.{◌≡◌, ℕ, ◌+◌, ◌-◌, ◌<◌, List, ◌++◌, length, take, drop, refl, sym, subst, arith, inl, inr, ◌⊎◌, Result, Ok, Err, take-append-drop, name_limit, Text, HasReadingWithin, IsValueWithin, IsViable, FailsAt, TextKind, IsFaultAt, ReadingFault, Unended, Span, Halt}
+use Rattle.bib_scan.proofs.Words.{◌≡◌, ℕ, ◌+◌, ◌-◌, ◌<◌, List, ◌++◌, length, take, drop, refl, sym, subst, arith, inl, inr, ◌⊎◌, Result, Ok, Err, take-append-drop, name_limit, Text, HasReadingWithin, IsValueWithin, IsViable, FailsAt, TextKind, IsFaultAt, Span, Halt}
 use Rattle.bib_scan.proofs.Words.{read_all_commands, read_whole_value}
 use Rattle.bib_spec.specs.Fault as fault
 use Rattle.bib_scan.specs.Laws.{IsSuchOrFails, OneFault, CutEnds}

@@ -1,5 +1,5 @@
 -- The items of a change before those of its window: which of them come, which go, and which stay with other trails.
-use Rattle.bib_store.proofs.Words.{◌≡◌, ℕ, ◌+◌, ◌-◌, ◌≤◌, ◌<◌, ◌^◌, List, ◌++◌, length, take, drop, sym, subst, ◌∙◌, ap, ap₂, arith, append_assoc, length-append, take-append-drop, between, take_at, drop_at, drop-drop, take-take, drop-take, drop-append-le, Reading, Reads, IsItem, all_stored, Change}
+use Rattle.bib_store.proofs.Words.{◌≡◌, ℕ, ◌+◌, ◌-◌, ◌≤◌, ◌<◌, ◌^◌, List, ◌++◌, length, take, drop, sym, subst, ◌∙◌, ap, ap₂, arith, append_assoc, length-append, take-append-drop, between, take_at, drop_at, drop-drop, take-take, drop-take, drop-append-le, Reading, Reads, all_stored, Change}
 use Rattle.bib_store.proofs.Words.{Tables, Window, AreTablesOf, texts_at, IsFirm, bodies_between, AreOthersOf, HaveShortTexts, MayPass, MayPassBetween, AreFollowed, ArePut, HasLead, IsLead}
 use Rattle.std.proofs.Common.{length-drop}
 use Rattle.std.proofs.lemmas.List.{take-append-le, length-take-le}

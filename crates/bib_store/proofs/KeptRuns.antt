@@ -1,6 +1,6 @@
 -- Tables that follow while items come into a list, or go from it.
 use Rattle.bib_store.proofs.Words.{◌≡◌, inl, ℕ, ◌+◌, ◌-◌, ◌≤◌, ◌<◌, ◌^◌, List, [], ◌++◌, length, map, take, drop, None, refl, sym, subst, ◌∙◌, ap, ap₂, arith, append_assoc, length-append, take-append-drop, flat_map, map-append, take-map, drop-map, take_at, drop_at, take-take, All-append, All-take}
-use Rattle.bib_store.proofs.Words.{All-drop, name_limit, file_limit, Text, IsClean, Reading, Reads, IsItem, item_bytes, bytes_of, Macros, months, macros_at, raw_texts_from, kept_bytes, stored, all_stored, without_range, Tables, AreTablesOf, texts_at, first_too_long, IsFirm, AreItemsOf, AreOthersOf}
+use Rattle.bib_store.proofs.Words.{All-drop, name_limit, file_limit, Text, IsClean, Reading, Reads, IsItem, bytes_of, Macros, months, macros_at, raw_texts_from, kept_bytes, stored, all_stored, without_range, Tables, AreTablesOf, texts_at, first_too_long, IsFirm, AreItemsOf, AreOthersOf}
 use Rattle.bib_store.proofs.Words.{HaveShortTexts, MayPass, IsMeasured, AreFollowed, file_of, IsKept, macros_in_front}
 use Rattle.std.proofs.Common.{length-drop}
 use Rattle.std.specs.List.{All}

@@ -1,5 +1,5 @@
 -- A file that is opened: its items are put into a list, and the tables are made.
-use Rattle.bib_store.proofs.Words.{◌≡◌, ℕ, ◌≤◌, List, [], length, Option, Some, None, option_map, refl, sym, ◌∙◌, ap, ap₂, subst, none-some, same_Some, slice_get_within, get_or_from_slice_get, slice_get-map, file_limit, Text, Reading, Reads, IsOpenable, name_limit, IsTree, tree_bytes, IsLayoutOf}
+use Rattle.bib_store.proofs.Words.{◌≡◌, ℕ, ◌≤◌, List, [], length, Option, Some, None, option_map, refl, sym, ◌∙◌, ap, ap₂, subst, none-some, same_Some, slice_get_within, get_or_from_slice_get, slice_get-map, file_limit, Text, Reads, IsOpenable, name_limit, IsTree, tree_bytes, IsLayoutOf}
 use Rattle.bib_store.proofs.Words.{Note, Tables, stored, all_stored, OfReading, AreNotesOf, file_of, IsKeptAs, IsKept}
 use Rattle.std.proofs.Common.{slice_get}
 use Rattle.bib_spec.specs.Reading as reading

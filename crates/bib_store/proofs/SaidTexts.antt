@@ -1,5 +1,5 @@
 -- What an entry says, and which of its texts is too long, by its rows.
-use Rattle.bib_store.proofs.Words.{◌≡◌, ℕ, true, List, [], ◌∷◌, ◌++◌, length, map, Option, Some, None, sym, ◌∙◌, ap, subst, append_assoc, name_limit, Text, Tree, EntryTree, Entry, IsTree, opening_bytes, Reading, Reads, IsItem, Macros, entry_in, crossref_text, View, view_of, fields_of, ItemFault}
+use Rattle.bib_store.proofs.Words.{◌≡◌, ℕ, true, List, [], ◌∷◌, ◌++◌, length, map, Option, Some, None, sym, ◌∙◌, ap, subst, append_assoc, name_limit, Text, Tree, EntryTree, Entry, IsTree, opening_bytes, Macros, entry_in, crossref_text, View, view_of, fields_of, ItemFault}
 use Rattle.bib_store.proofs.Words.{TooLong, is_entry_tree, first_too_long, placed_texts, row_texts, crossref_in, OfRows}
 use Rattle.std.specs.Prelude.{Result, Ok, Err, IfErr}
 use Rattle.bib_spec.specs.Reading as reading
