@@ -123,7 +123,7 @@ def abbreviated(count):
 
 
 def articles_of_one_volume(count, every):
-    """So many articles as long as those of a database, all over which one in so many refers to a volume, which comes last."""
+    """So many articles as long as those of a database, and after them a volume, to which the first article and each `every`-th after it refer."""
     return b"".join(
         ("@article{key%d,\n  author = {%s},\n  title = {%s},\n  note = {%s},\n%s  year = %d\n}\n\n"
          % (n, people_of(n), text_of(n, 9), text_of(n + 3, 32), "  crossref = {volume},\n" if n % every == 0 else "", 1950 + n % 75)).encode()
