@@ -6,7 +6,7 @@ ghost use Rattle.bib_answers.specs.Messages.{no_such_entry_line, refusal_line};
 ghost use Rattle.bib_answers.specs.Outcome.{outcome_of, answer_of};
 
 use crate::messages::{NO_SUCH_ENTRY, refusal_line};
-use bib_scan::{ReadFault, Text};
+use bib_scan::{ReadFault, Text, copied};
 use bib_words::status;
 use std::alloc::{AllocError, Global};
 
@@ -44,7 +44,7 @@ pub fn done(alloc: Global, output: Text) -> Answer
 {
     Answer {
         output,
-        outcome: outcome_of(Text::from_vec(Vec::new(alloc)), status::DONE),
+        outcome: outcome_of(Text::empty(alloc), status::DONE),
     }
 }
 
@@ -53,7 +53,7 @@ pub fn refused(alloc: Global, message: Text) -> Answer
     ensures { result ≡ answer_of [] message 1 }
 {
     Answer {
-        output: Text::from_vec(Vec::new(alloc)),
+        output: Text::empty(alloc),
         outcome: outcome_of(message, status::REFUSED),
     }
 }
@@ -62,7 +62,7 @@ pub fn refused(alloc: Global, message: Text) -> Answer
 pub fn no_such_entry(alloc: Global) -> Result<Answer, AllocError>
     ensures { IfOk result (λ answer. answer ≡ answer_of [] no_such_entry_line 1) }
 {
-    let message = Text::from_vec(Vec::from_slice(alloc, NO_SUCH_ENTRY)?);
+    let message = copied(alloc, NO_SUCH_ENTRY)?;
     Ok(refused(alloc, message))
 }
 

@@ -15,7 +15,7 @@ use crate::lines::add_all;
 use crate::opening::answer_file;
 use bib_keys::{LabelRecords, Parents};
 use bib_names::{label_names, labels_of};
-use bib_scan::Text;
+use bib_scan::{Text, copied};
 use bib_store::{Database, Paged};
 use std::alloc::{AllocError, Global};
 
@@ -120,8 +120,7 @@ fn add_label_row(
     ensures keys { OnOk result (rows.new.keys.items ≡ rows.old.keys.items ++ key.now ∷ []) }
     ensures bases { OnOk result (rows.new.bases.items ≡ rows.old.bases.items ++ base ∷ []) }
 {
-    rows.keys
-        .push(Text::from_vec(Vec::from_slice(alloc, key)?))?;
+    rows.keys.push(copied(alloc, key)?)?;
     rows.bases.push(base)?;
     Ok(())
 }

@@ -49,7 +49,7 @@ fn told(alloc: Global, lines: Vec<u8>, status: u8) -> Answer
 {
     Answer {
         output: Text::from_vec(lines),
-        outcome: outcome_of(Text::from_vec(Vec::new(alloc)), status),
+        outcome: outcome_of(Text::empty(alloc), status),
     }
 }
 

@@ -9,7 +9,7 @@ ghost use Rattle.bib_words.specs.Command.{IsCommand};
 use crate::Usage;
 use crate::command_line::command_line;
 use crate::usages::{no_memory, usage_of};
-use bib_scan::{Seq, Text};
+use bib_scan::{Seq, Text, copied};
 use bib_words::Command;
 use clap::ArgMatches;
 use std::alloc::{AllocError, Global};
@@ -47,7 +47,7 @@ fn command_of(alloc: Global, name: &str, matches: &ArgMatches<'_>) -> Result<Com
     ensures { IfOk result (λ command. command ≡ command_of name.now (rows_of (found_of matches.now))) }
 {
     Ok(Command {
-        name: Text::from_vec(Vec::from_slice(alloc, name.as_bytes())?),
+        name: copied(alloc, name.as_bytes())?,
         words: words_in(alloc, matches)?,
         n: number_of(matches),
         depth: depth_of(matches),
@@ -110,7 +110,7 @@ fn add_words(alloc: Global, texts: &mut Vec<Text>, words: &[&str]) -> Result<(),
     ensures { OnOk result (texts.new.items ≡ texts.old.items ++ map (λ word. word.now) words.now) }
 {
     for word in words {
-        texts.push(Text::from_vec(Vec::from_slice(alloc, word.as_bytes())?))?;
+        texts.push(copied(alloc, word.as_bytes())?)?;
     }
     Ok(())
 }

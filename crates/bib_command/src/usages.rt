@@ -43,7 +43,7 @@ pub fn no_memory(alloc: Global) -> Usage
     ensures { result ≡ no_memory }
 {
     Usage {
-        text: Text::from_vec(Vec::new(alloc)),
+        text: Text::empty(alloc),
         status: status::MEMORY,
     }
 }

@@ -4,7 +4,7 @@ ghost use Rattle.std.specs.Prelude.{◌≡◌, ◌↔◌, IsTrue, IfOk};
 ghost use Rattle.std.specs.List.{list_all};
 ghost use Rattle.history_spec.specs.Steps.{is_label_byte, is_label, label_of, IsLabel};
 
-use bib_text::{Seq, Text};
+use bib_text::{Text, copied};
 use std::alloc::{AllocError, Global};
 use std::marker::Model;
 
@@ -59,7 +59,7 @@ impl Label {
         if !is_label(text) {
             return Ok(None);
         }
-        let text = Seq::from_vec(text.to_vec(alloc)?);
+        let text = copied(alloc, text)?;
         Ok(Some(Label { text }))
     }
 

@@ -11,8 +11,8 @@ ghost use Rattle.bib_edit.specs.declared.fault.EditFault.TheVariants.{Memory};
 
 use crate::address::sought_fields;
 use crate::fault::EditFault;
-use crate::pieces::{copied, one_piece};
-use bib_scan::{FieldView, ItemView, Seq, is_name};
+use crate::pieces::one_piece;
+use bib_scan::{FieldView, ItemView, Seq, copied, is_name};
 use bib_store::{Database, ItemList, Piece};
 use std::alloc::Global;
 

@@ -155,7 +155,7 @@ pub(crate) fn put_in<L: ItemList>(
     ensures only { IfErr result (λ fault. fault ≡ Memory) }
 {
     if text.as_slice().is_empty() {
-        return Ok(Seq::from_vec(Vec::new(alloc)));
+        return Ok(Seq::empty(alloc));
     }
     one_piece(alloc, insertion_of(alloc, db, n, text))
 }

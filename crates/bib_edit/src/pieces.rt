@@ -8,14 +8,7 @@ ghost use Rattle.bib_edit.specs.declared.fault.EditFault.TheVariants.{Memory};
 use crate::fault::EditFault;
 use bib_scan::{Seq, Text};
 use bib_store::{Database, ItemList, Piece};
-use std::alloc::{AllocError, Global};
-
-/// The bytes as a text of their own.
-pub(crate) fn copied(alloc: Global, bytes: &[u8]) -> Result<Text, AllocError>
-    ensures { IfOk result (λ text. text ≡ bytes.now) }
-{
-    Ok(Seq::from_vec(bytes.to_vec(alloc)?))
-}
+use std::alloc::Global;
 
 /// The list of this one piece.
 pub(crate) fn one_piece(alloc: Global, piece: Piece) -> Result<Seq<Piece>, EditFault>
@@ -39,7 +32,7 @@ pub(crate) fn insertion_of<L: ItemList>(
 {
     Piece {
         place: db.item_place(n) as u64,
-        old: Seq::from_vec(Vec::new(alloc)),
+        old: Seq::empty(alloc),
         new: text,
     }
 }

@@ -15,8 +15,7 @@ ghost use Rattle.bib_edit.specs.declared.fault.EditFault.TheVariants.{Memory};
 use crate::address::field_named;
 use crate::fault::EditFault;
 use crate::new_keys::NewKeys;
-use crate::pieces::copied;
-use bib_scan::{ItemView, Seq, Text};
+use bib_scan::{ItemView, Seq, Text, copied};
 use bib_store::{Database, ItemList, Piece};
 use std::alloc::{AllocError, Global};
 

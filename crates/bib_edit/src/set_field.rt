@@ -13,9 +13,9 @@ ghost use Rattle.bib_edit.specs.declared.fault.EditFault.TheVariants.{Ambiguous,
 use crate::address::{lone_entry, sought_fields};
 use crate::fault::EditFault;
 use crate::limits::{are_too_long, is_text_too_long};
-use crate::pieces::{copied, one_piece};
+use crate::pieces::one_piece;
 use crate::values::value_parts;
-use bib_scan::{FieldView, ItemView, Seq, Text, is_name};
+use bib_scan::{FieldView, ItemView, Seq, Text, copied, is_name};
 use bib_store::{Database, ItemList, Piece};
 use std::alloc::{AllocError, Global};
 

@@ -9,8 +9,7 @@ ghost use Rattle.bib_edit.specs.Removal.{body_at, is_after_comment, text_before,
 ghost use Rattle.bib_edit.specs.declared.fault.EditFault.TheVariants.{Memory};
 
 use crate::fault::EditFault;
-use crate::pieces::copied;
-use bib_scan::{ItemView, Kind, Seq, is_clean_trail};
+use bib_scan::{ItemView, Kind, Seq, copied, is_clean_trail};
 use bib_store::{Database, ItemList, Piece};
 use std::alloc::Global;
 
@@ -73,6 +72,6 @@ pub(crate) fn removal_of<L: ItemList>(
     Ok(Piece {
         place: db.item_place(n) as u64,
         old: copied(alloc, body_of(db, n))?,
-        new: Seq::from_vec(Vec::new(alloc)),
+        new: Seq::empty(alloc),
     })
 }

@@ -67,8 +67,8 @@ fn no_changes<L: ItemList>(alloc: Global, file: Vec<u8>, empty: L) -> Result<Cha
         Ok(db) => {
             close(db);
             Ok(Changes {
-                past: Seq::from_vec(Vec::new(alloc)),
-                future: Seq::from_vec(Vec::new(alloc)),
+                past: Seq::empty(alloc),
+                future: Seq::empty(alloc),
             })
         }
         Err(fault) => Err(unopened(fault)),

@@ -117,7 +117,7 @@ fn grow_inside<L: ItemList>(
 {
     let more = &pieces[0];
     let new = allowed_len(edited_len(len, step.pieces.as_slice(), spot, more))?;
-    let mut list = replace(&mut step.pieces, Seq::from_vec(Vec::new(alloc))).into_vec();
+    let mut list = replace(&mut step.pieces, Seq::empty(alloc)).into_vec();
     let made = make_inside(alloc, db, &mut list, ends, spot, pieces, more);
     step.pieces = Seq::from_vec(list);
     made?;
@@ -154,7 +154,7 @@ fn grow_near<L: ItemList>(
     }
     let change = amendment(alloc, step.pieces.as_slice(), ends.as_slice(), pieces)?;
     let new = allowed_len(amended_len(len, step.pieces.as_slice(), &change))?;
-    let mut list = replace(&mut step.pieces, Seq::from_vec(Vec::new(alloc))).into_vec();
+    let mut list = replace(&mut step.pieces, Seq::empty(alloc)).into_vec();
     let made = make(db, &mut list, ends, change, pieces);
     step.pieces = Seq::from_vec(list);
     made?;

@@ -88,8 +88,8 @@ fn make_in_piece<L: ItemList>(
     ensures same { OnErr result (piece.exit.now ≡ piece.entry.now) }
     ensures err { OnErr result (db.new ≡ db.old) }
 {
-    let mut old = replace(&mut piece.old, Seq::from_vec(Vec::new(alloc))).into_vec();
-    let mut new = replace(&mut piece.new, Seq::from_vec(Vec::new(alloc))).into_vec();
+    let mut old = replace(&mut piece.old, Seq::empty(alloc)).into_vec();
+    let mut new = replace(&mut piece.new, Seq::empty(alloc)).into_vec();
     let made = make_in_texts(alloc, db, &mut old, &mut new, byte, pieces, more);
     piece.old = Seq::from_vec(old);
     piece.new = Seq::from_vec(new);

@@ -52,10 +52,10 @@ pub(crate) fn take_label(alloc: Global, current: &mut OpenStep) -> Text
 {
     match replace(current, OpenStep::LastStep) {
         OpenStep::NewStep(label) => label,
-        OpenStep::LastStep => Seq::from_vec(Vec::new(alloc)),
+        OpenStep::LastStep => Seq::empty(alloc),
         OpenStep::NoStep => {
             *current = OpenStep::NoStep;
-            Seq::from_vec(Vec::new(alloc))
+            Seq::empty(alloc)
         }
     }
 }

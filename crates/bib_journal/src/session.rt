@@ -220,7 +220,7 @@ impl<L: ItemList> Session<L> {
         if !self.current.is_none() {
             return Err(SessionFault::StepOpen);
         }
-        self.current = OpenStep::NewStep(Seq::from_vec(label.to_vec(self.alloc)?));
+        self.current = OpenStep::NewStep(bib_scan::copied(self.alloc, label)?);
         Ok(())
     }
 

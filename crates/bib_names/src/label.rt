@@ -56,7 +56,7 @@ pub(crate) fn listed_names(alloc: Global, text: &[u8]) -> Result<Seq<&[u8]>, All
     if balances(text) {
         names_of(alloc, text)
     } else {
-        Ok(Seq::from_vec(Vec::new(alloc)))
+        Ok(Seq::empty(alloc))
     }
 }
 
@@ -65,12 +65,12 @@ fn group(alloc: Global, part: Part, form: Form, between: Option<Text>) -> Group
     ensures { result ≡ group part form between }
 {
     Group {
-        pre: Seq::from_vec(Vec::new(alloc)),
+        pre: Seq::empty(alloc),
         part,
         form,
         between,
-        post: Seq::from_vec(Vec::new(alloc)),
-        trail: Seq::from_vec(Vec::new(alloc)),
+        post: Seq::empty(alloc),
+        trail: Seq::empty(alloc),
     }
 }
 
@@ -156,7 +156,7 @@ pub(crate) fn letters_of_one(alloc: Global, name: &[u8]) -> Result<Text, AllocEr
 {
     match read_name(alloc, name)? {
         Some(name) => letters_printed(alloc, &name),
-        None => Ok(Seq::from_vec(Vec::new(alloc))),
+        None => Ok(Seq::empty(alloc)),
     }
 }
 

@@ -9,7 +9,7 @@ use crate::fault::NameFault;
 use crate::label::{
     digits_of, first_three, letters_of_many, letters_of_one, listed_names, or_anon, text_in,
 };
-use bib_scan::{Seq, Text, same_folded};
+use bib_scan::{Seq, Text, copied, same_folded};
 use std::alloc::{AllocError, Global};
 use std::marker::Model;
 
@@ -107,13 +107,6 @@ fn year_digits(alloc: Global, text: &[u8]) -> Result<Text, AllocError>
     Ok(Seq::from_vec(digits.split_off(end)?))
 }
 
-/// A copy of a text.
-fn copied(alloc: Global, text: &[u8]) -> Result<Text, AllocError>
-    ensures { IfOk result (λ copy. copy ≡ text.now) }
-{
-    Ok(Seq::from_vec(Vec::from_slice(alloc, text)?))
-}
-
 /// The letters of the names in the field of this name, if there is one.
 fn letters_given(
     alloc: Global,
@@ -191,7 +184,7 @@ fn text_or(alloc: Global, own: Option<Text>, inherited: Option<&Text>) -> Result
     }
     match inherited {
         Some(text) => copied(alloc, text.as_slice()),
-        None => Ok(Seq::from_vec(Vec::new(alloc))),
+        None => Ok(Seq::empty(alloc)),
     }
 }
 

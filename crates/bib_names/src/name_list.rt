@@ -55,7 +55,7 @@ pub(crate) fn names_of(alloc: Global, text: &[u8]) -> Result<Seq<&[u8]>, AllocEr
     ensures { IfOk result (λ names. map (λ n. n.now) names ≡ names_of text.now) }
 {
     if is_blank(text) {
-        return Ok(Seq::from_vec(Vec::new(alloc)));
+        return Ok(Seq::empty(alloc));
     }
     let mut names = Vec::new(alloc);
     let mut start = 0;

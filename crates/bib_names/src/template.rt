@@ -7,7 +7,7 @@ ghost use Rattle.bib_names.specs.Template.{is_no_brace, is_ornament, OneTemplate
 ghost use Rattle.bib_names.specs.TemplateReading.{after_byte, part_named, letters_at, between_at, group_at};
 
 use crate::fault::NameFault;
-use bib_scan::{Seq, Text};
+use bib_scan::{Seq, Text, copied};
 use std::alloc::{AllocError, Global};
 use std::marker::Model;
 
@@ -191,19 +191,12 @@ fn split_group(text: &[u8]) -> Option<(GroupText<'_>, &[u8])>
     Some((group, rest))
 }
 
-/// A copy of the text.
-fn owned(alloc: Global, text: &[u8]) -> Result<Text, AllocError>
-    ensures { IfOk result (λ t. t ≡ text.now) }
-{
-    Ok(Seq::from_vec(Vec::from_slice(alloc, text)?))
-}
-
 /// A copy of the text between words, if it is given.
 fn owned_between(alloc: Global, between: Option<&[u8]>) -> Result<Option<Text>, AllocError>
     ensures { IfOk result (λ b. b ≡ option_map (λ t. t.now) between.entry) }
 {
     match between {
-        Some(text) => Ok(Some(owned(alloc, text)?)),
+        Some(text) => Ok(Some(copied(alloc, text)?)),
         None => Ok(None),
     }
 }
@@ -213,12 +206,12 @@ fn owned_group(alloc: Global, group: &GroupText<'_>) -> Result<Group, AllocError
     ensures { IfOk result (λ g. g ≡ group.now) }
 {
     Ok(Group {
-        pre: owned(alloc, group.pre)?,
+        pre: copied(alloc, group.pre)?,
         part: group.part,
         form: group.form,
         between: owned_between(alloc, group.between)?,
-        post: owned(alloc, group.post)?,
-        trail: owned(alloc, group.trail)?,
+        post: copied(alloc, group.post)?,
+        trail: copied(alloc, group.trail)?,
     })
 }
 
@@ -260,7 +253,7 @@ impl Template {
         if !rest.is_empty() {
             return Err(NameFault::BadTemplate);
         }
-        Ok(Template::of(alloc, owned(alloc, front)?, groups))
+        Ok(Template::of(alloc, copied(alloc, front)?, groups))
     }
 
     /// The template of this text and these groups.

@@ -6,7 +6,7 @@ ghost use Rattle.bib_spec.specs.Pieces.{AscendFrom, reversed_from};
 ghost use Rattle.bib_pieces.specs.Reversing.{new_bytes_limit};
 
 use bib_data::Piece;
-use bib_text::Seq;
+use bib_text::{Seq, copied};
 use std::alloc::{AllocError, Global};
 
 /// The pieces that lead back from the text that these pieces make: old and new bytes exchanged, at the places of that text.
@@ -32,8 +32,8 @@ pub fn reverse_from(
         let place = new_end + (piece.place - end);
         back.push(Piece {
             place,
-            old: Seq::from_vec(piece.new.as_slice().to_vec(alloc)?),
-            new: Seq::from_vec(piece.old.as_slice().to_vec(alloc)?),
+            old: copied(alloc, piece.new.as_slice())?,
+            new: copied(alloc, piece.old.as_slice())?,
         })?;
         end = piece
             .place

@@ -18,7 +18,7 @@ ghost use Rattle.bib_ris.specs.declared.fault.ImportFault.TheVariants.{Memory};
 use crate::fault::ImportFault;
 use bib_data::{NewEntry, Record};
 use bib_names::key_base;
-use bib_scan::{Seq, Text, is_key};
+use bib_scan::{Seq, Text, copied, is_key};
 use ris_format::{MappingFault, from_ris, into_entry};
 use ris_text::{RisFault, RisRecord, Unread};
 use std::alloc::{AllocError, Global};
@@ -130,7 +130,7 @@ pub(crate) fn usable_keys(alloc: Global, entries: &[NewEntry]) -> Result<Vec<Tex
     'entries: for entry in entries {
         let key = entry.key.as_slice();
         if is_key(key) {
-            keys.push(Seq::from_vec(Vec::from_slice(alloc, key)?))?;
+            keys.push(copied(alloc, key)?)?;
         }
     }
     Ok(keys)

@@ -38,7 +38,7 @@ fn keys_of<L: ItemList>(
     ensures memory { IfErr result (λ fault. fault ≡ Memory) }
 {
     if bases.is_empty() {
-        return Ok(Seq::from_vec(Vec::new(alloc)));
+        return Ok(Seq::empty(alloc));
     }
     let ids = usable_keys(alloc, entries)?;
     match free_keys(alloc, db, bases, ids.as_slice()) {

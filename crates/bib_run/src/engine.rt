@@ -26,7 +26,7 @@ use bib_answers::{
     Answer, Outcome, answer_cat, answer_check, answer_cite, answer_json, answer_labels,
     answer_lint, answer_names, answer_newkeys, answer_show, outcome_of,
 };
-use bib_scan::{FILE_LIMIT, Text};
+use bib_scan::{FILE_LIMIT, Text, copied};
 use bib_words::{Command, status};
 use journal_format::JOURNAL_LIMIT;
 use std::alloc::{AllocError, Global};
@@ -86,7 +86,7 @@ fn run_command<F: Read, J: Read, I: Read, W: Write>(
 {
     match try_run(alloc, command, file, has_journal, journal, input, out) {
         Ok(outcome) => outcome,
-        Err(AllocError) => outcome_of(Text::from_vec(Vec::new(alloc)), status::MEMORY),
+        Err(AllocError) => outcome_of(Text::empty(alloc), status::MEMORY),
     }
 }
 
@@ -111,8 +111,8 @@ fn try_run<F: Read, J: Read, I: Read, W: Write>(
     ensures unread { ¬ ReadsJournal command.now → journal.new ≡ journal.old }
     ensures input { ¬ TakesInput command.now → input.new ≡ input.old }
 {
-    let read_fault = line(alloc, READ_FAULT)?;
-    let write_fault = line(alloc, WRITE_FAULT)?;
+    let read_fault = copied(alloc, READ_FAULT)?;
+    let write_fault = copied(alloc, WRITE_FAULT)?;
     match read_sources(alloc, command, file, has_journal, journal, input) {
         Ok(sources) => answer_sources(alloc, command, sources, write_fault, out),
         Err(SourceFault::Failed) => Ok(outcome_of(read_fault, status::FAULT)),
@@ -252,13 +252,6 @@ fn read_input<I: Read>(
     Ok(Vec::new(alloc))
 }
 
-/// The line of a read or write fault.
-fn line(alloc: Global, line: &[u8]) -> Result<Text, AllocError>
-    ensures { IfOk result (λ text. text ≡ line.now) }
-{
-    Ok(Text::from_vec(Vec::from_slice(alloc, line)?))
-}
-
 /// The command's answer to the bytes of its file, of its journal and of its input.
 fn answer_of(
     alloc: Global,
@@ -295,7 +288,7 @@ fn printed(alloc: Global, answer: Answer) -> Answer
         status,
     } = answer.outcome;
     Answer {
-        output: file.unwrap_or(Text::from_vec(Vec::new(alloc))),
+        output: file.unwrap_or(Text::empty(alloc)),
         outcome: outcome_of(message, status),
     }
 }

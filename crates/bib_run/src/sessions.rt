@@ -10,7 +10,7 @@ ghost use Rattle.bib_run.specs.SessionNames.{session_fault_name};
 use crate::messages::JOURNAL_MISMATCH;
 use bib_answers::{Answer, Outcome, fault_name, outcome_of, refused, unread};
 use bib_journal::{Saved, Session, SessionFault};
-use bib_scan::Text;
+use bib_scan::{Text, copied};
 use bib_store::Paged;
 use bib_words::status;
 use std::alloc::{AllocError, Global};
@@ -67,10 +67,7 @@ pub fn unopened(alloc: Global, fault: SessionFault) -> Result<Answer, AllocError
     match fault {
         SessionFault::Unopened(fault) => unread(alloc, fault),
         SessionFault::BadJournal(place) => Ok(refused(alloc, bad_journal_line(alloc, place)?)),
-        SessionFault::JournalMismatch => Ok(refused(
-            alloc,
-            Text::from_vec(Vec::from_slice(alloc, JOURNAL_MISMATCH)?),
-        )),
+        SessionFault::JournalMismatch => Ok(refused(alloc, copied(alloc, JOURNAL_MISMATCH)?)),
         _ => Err(AllocError),
     }
 }
@@ -84,7 +81,7 @@ pub fn outcome_after(alloc: Global, done: usize, message: Option<Text>, saved: S
         None => Outcome {
             file: Some(saved.file),
             journal: Some(saved.journal),
-            message: Text::from_vec(Vec::new(alloc)),
+            message: Text::empty(alloc),
             status: status::DONE,
         },
         Some(message) if done == 0 => outcome_of(message, status::REFUSED),

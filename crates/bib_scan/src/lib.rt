@@ -21,7 +21,7 @@ mod text;
 mod value;
 mod view;
 
-pub use bib_text::{NAME_LIMIT, Seq, Text, same_folded};
+pub use bib_text::{NAME_LIMIT, Seq, Text, copied, same_folded};
 pub use fault::ReadFault;
 pub use fields::{FieldView, Fields};
 pub use laws::{clean_before_sign, cut_ends, joined_readings, one_fault, one_place, one_reading};

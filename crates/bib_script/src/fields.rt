@@ -4,15 +4,8 @@ ghost use Rattle.std.specs.Prelude.{◌≡◌, ◌++◌, ◌∷◌, [], Some, No
 ghost use Rattle.bib_spec.specs.Text.{Text as Bytes};
 ghost use Rattle.bib_script.specs.Script.{fields_of};
 
-use bib_text::{Seq, Text};
+use bib_text::{Seq, Text, copied};
 use std::alloc::{AllocError, Global};
-
-/// The bytes, copied.
-pub(crate) fn copied(alloc: Global, word: &[u8]) -> Result<Text, AllocError>
-    ensures { IfOk result (λ text. text ≡ word.now) }
-{
-    Ok(Seq::from_vec(word.to_vec(alloc)?))
-}
 
 /// Adds a field with this name and this value.
 fn push_field(

@@ -4,9 +4,10 @@ ghost use Rattle.std.specs.Prelude.{◌≡◌, bytes_eq, map, option_map, IfOk};
 ghost use Rattle.bib_data.specs.declared.request.Request.TheVariants as request;
 ghost use Rattle.bib_script.specs.Script.{fields_of, new_entry, set_of, drop_of, add_of, remove_of, move_of, rename_key_of, rename_macro_of, inline_of, introduce_of, depth_of, regenerate_of, renaming_of, edit_of, group_of, end_of, request_of};
 
-use crate::fields::{copied, fields_of};
+use crate::fields::fields_of;
 use crate::numbers::number_of;
 use bib_data::{Edit, Label, NewEntry, Request};
+use bib_text::copied;
 use std::alloc::{AllocError, Global};
 
 /// The depth of records if a line does not say it: parents only.

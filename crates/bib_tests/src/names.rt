@@ -4,12 +4,12 @@ use bib_data::Record;
 use bib_names::{
     Name, NameFault, Template, Word, key_base, label_base, labels, split_name, split_names, text_in,
 };
-use bib_scan::{Seq, Text};
+use bib_scan::{Seq, Text, copied};
 use std::alloc::{AllocError, Global};
 use std::test::Fail;
 
 fn owned(alloc: Global, text: &[u8]) -> Result<Text, NameFault> {
-    Ok(Seq::from_vec(Vec::from_slice(alloc, text)?))
+    Ok(copied(alloc, text)?)
 }
 
 /// The number of the fault, and 0 for none.

@@ -8,5 +8,5 @@ mod seq;
 mod trimming;
 
 pub use names::{NAME_LIMIT, same_folded};
-pub use seq::{Seq, Text};
+pub use seq::{Seq, Text, copied};
 pub use trimming::{is_space, trimmed};

@@ -1,7 +1,8 @@
 //! Lists that own their members.
 
-ghost use Rattle.std.specs.Prelude.{◌≡◌, List, length};
+ghost use Rattle.std.specs.Prelude.{◌≡◌, [], List, length, IfOk};
 
+use std::alloc::{AllocError, Global};
 use std::marker::Model;
 
 /// A list that owns its members. Contracts speak of the list, and not of its place in memory.
@@ -20,6 +21,15 @@ impl<T> Model for Seq<T> {
 }
 
 impl<T> Seq<T> {
+    /// The list without members. It asks for no memory.
+    pub fn empty(alloc: Global) -> Self
+        ensures { result ≡ [] }
+    {
+        Seq {
+            members: Vec::new(alloc),
+        }
+    }
+
     /// The list of a vector's members. It allocates no memory.
     pub fn from_vec(members: Vec<T>) -> Self
         ensures { result ≡ members.items }
@@ -40,4 +50,11 @@ impl<T> Seq<T> {
     {
         self.members.as_slice()
     }
+}
+
+/// A copy of these bytes. It is refused if memory is refused.
+pub fn copied(alloc: Global, bytes: &[u8]) -> Result<Text, AllocError>
+    ensures { IfOk result (λ text. text ≡ bytes.now) }
+{
+    Ok(Seq::from_vec(bytes.to_vec(alloc)?))
 }

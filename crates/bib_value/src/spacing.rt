@@ -7,7 +7,7 @@ ghost use Rattle.bib_value.specs.Spacing.{can_go_on, neat};
 ghost use Rattle.bib_value.specs.declared.fault.ValueFault.TheVariants.{Memory};
 
 use crate::fault::ValueFault;
-use bib_scan::{Seq, Text};
+use bib_scan::{Seq, Text, copied};
 use std::alloc::Global;
 
 /// Whether the byte is white space.
@@ -51,7 +51,7 @@ pub fn field_text(alloc: Global, bytes: &[u8]) -> Result<Text, ValueFault>
 {
     // most texts are their own field texts
     if is_neat(bytes) {
-        return Ok(Seq::from_vec(Vec::from_slice(alloc, bytes)?));
+        return Ok(copied(alloc, bytes)?);
     }
     spaced(alloc, bytes)
 }

@@ -9,7 +9,7 @@ ghost use Rattle.bib_value.specs.declared.fault.ValueFault.TheVariants.{Memory};
 
 use crate::fault::ValueFault;
 use crate::months::month;
-use bib_scan::{Seq, Text};
+use bib_scan::{Text, copied};
 use folded_map::FoldedMap;
 use std::alloc::Global;
 use std::marker::Model;
@@ -64,7 +64,7 @@ impl Macros {
         ensures only { IfErr result (λ fault. fault ≡ Memory) }
     {
         let alloc = self.defined.allocator();
-        let text = Seq::from_vec(Vec::from_slice(alloc, text)?);
+        let text = copied(alloc, text)?;
         self.defined.insert(name, text)?;
         Ok(())
     }

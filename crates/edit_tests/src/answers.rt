@@ -5,7 +5,7 @@ use crate::renames::{CROSSED, MADE};
 use crate::rows::Stop;
 use crate::splicing::{Change, pieces_of};
 use bib_edit::free_key;
-use bib_scan::{Seq, Text};
+use bib_scan::{Text, copied};
 use bib_store::{Database, Holders, ItemList};
 use std::alloc::{AllocError, Global};
 use std::test::Fail;
@@ -436,7 +436,7 @@ fn is_said(said: &Said, answer: &Answer) -> bool {
 }
 
 fn text(alloc: Global, bytes: &[u8]) -> Result<Text, AllocError> {
-    Ok(Seq::from_vec(bytes.to_vec(alloc)?))
+    copied(alloc, bytes)
 }
 
 fn macro_text<L: ItemList>(db: &Database<L>, n: usize, name: &[u8]) -> Result<Said, Stop> {

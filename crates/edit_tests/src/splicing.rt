@@ -2,7 +2,7 @@
 
 use crate::examples::{Example, all_hold};
 use crate::rows::Stop;
-use bib_scan::{Seq, Text};
+use bib_scan::{Seq, Text, copied};
 use bib_store::{Database, ItemList, Piece};
 use std::alloc::{AllocError, Global};
 use std::test::Fail;
@@ -335,7 +335,7 @@ const SCANS: &[Scan] = &[
 ];
 
 fn text(alloc: Global, bytes: &[u8]) -> Result<Text, AllocError> {
-    Ok(Seq::from_vec(bytes.to_vec(alloc)?))
+    copied(alloc, bytes)
 }
 
 pub fn pieces_of(alloc: Global, changes: &[Change]) -> Result<Seq<Piece>, AllocError> {

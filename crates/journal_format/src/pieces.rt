@@ -10,8 +10,8 @@ use crate::cutting::cut;
 use crate::fault::Stop;
 use crate::numbers::read_number;
 use bib_data::Piece;
-use bib_text::{Seq, Text};
-use std::alloc::{AllocError, Global};
+use bib_text::copied;
+use std::alloc::Global;
 
 /// The three numbers of the line, separated by spaces, if the first is not below the place `from`.
 fn read_numbers(from: u64, line: &[u8]) -> Option<(u64, u64, u64)>
@@ -59,13 +59,6 @@ fn split_bytes(len: usize, text: &[u8]) -> Result<(&[u8], &[u8]), usize>
         [b'\n', after @ ..] => Ok((bytes, after)),
         _ => Err(rest.len()),
     }
-}
-
-/// The bytes, copied.
-pub(crate) fn copied(alloc: Global, bytes: &[u8]) -> Result<Text, AllocError>
-    ensures { IfOk result (λ text. text ≡ bytes.now) }
-{
-    Ok(Seq::from_vec(bytes.to_vec(alloc)?))
 }
 
 /// The first piece, whose place is `from` or after it, and the text after the piece; or why reading stops.

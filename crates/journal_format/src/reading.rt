@@ -10,11 +10,10 @@ ghost use Rattle.journal_format.specs.Parts.{IsTailOf, IsFromCounts, IsFromDiges
 use crate::fault::{JournalFault, Stop};
 use crate::heads::{split_counts, split_digest, split_version};
 use crate::journal::Journal;
-use crate::pieces::copied;
 use crate::step::Step;
 use crate::steps::{STEP_TEXTS_LIMIT, split_steps};
 use crate::version::Version;
-use bib_text::Seq;
+use bib_text::{Seq, copied};
 use std::alloc::Global;
 
 /// The longest journal, in bytes. (dialect)

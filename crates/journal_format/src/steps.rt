@@ -11,11 +11,11 @@ ghost use Rattle.journal_format.specs.Faults.{StopsWhere};
 use crate::cutting::cut;
 use crate::fault::Stop;
 use crate::numbers::read_number;
-use crate::pieces::{copied, split_piece};
+use crate::pieces::split_piece;
 use crate::step::Step;
 use crate::version::Version;
 use bib_data::{Piece, is_label};
-use bib_text::Seq;
+use bib_text::{Seq, copied};
 use std::alloc::Global;
 
 /// The greatest length of the texts of all steps together, in bytes. (dialect)
@@ -74,7 +74,7 @@ fn split_plain_step(alloc: Global, text: &[u8]) -> Result<(Step, &[u8]), Stop>
     ensures wrong { IfErr result (StopsWhere (IsWrongStep First text.now)) }
 {
     let (pieces, rest) = split_pieces(alloc, text)?;
-    let label = Seq::from_vec(Vec::new(alloc));
+    let label = Seq::empty(alloc);
     Ok((Step { label, pieces }, rest))
 }
 

@@ -1,7 +1,7 @@
 //! Journals as text.
 
 use bib_data::{Piece, is_label};
-use bib_scan::{Seq, Text};
+use bib_scan::{Seq, Text, copied};
 use journal_format::{Step, digest, read_journal, write_journal};
 use std::alloc::{AllocError, Global};
 use std::test::Fail;
@@ -23,7 +23,7 @@ const FRESH: &[u8] =
     b"bibkeep 2\nba7816bf8f01cfea414140de5dae2223b00361a396177a9cb410ff61f20015ad\n0 0\n";
 
 fn text(alloc: Global, bytes: &[u8]) -> Result<Text, AllocError> {
-    Ok(Seq::from_vec(bytes.to_vec(alloc)?))
+    copied(alloc, bytes)
 }
 
 /// A step of one piece, with this label.

@@ -4,8 +4,8 @@ ghost use Rattle.std.specs.Prelude.{◌≡◌, ◌++◌, ◌∷◌, [], OnOk, If
 ghost use Rattle.ris_format.specs.Mapping.{is_filled, has_text, text_of, field, later_names, field_names, ris_names};
 
 use crate::kinds::{Kind, is};
-use crate::text::{copy, copy_with_room, has_bytes};
-use bib_scan::Text;
+use crate::text::{copy_with_room, has_bytes};
+use bib_scan::{Text, copied};
 use std::alloc::{AllocError, Global};
 
 /// A record made of RIS has at most this many fields, however many lines the RIS record has.
@@ -40,7 +40,7 @@ pub(crate) fn push_field(
     ensures { OnOk result (fields.new.items ≡ fields.old.items ++ filter has_text (field name.now text.now ∷ [])) }
 {
     if has_bytes(text) {
-        let name = copy(alloc, name)?;
+        let name = copied(alloc, name)?;
         let text = copy_with_room(alloc, text)?;
         fields.push((name, text))?;
     }
@@ -57,7 +57,7 @@ pub(crate) fn push_text(
     ensures { OnOk result (fields.new.items ≡ fields.old.items ++ filter has_text (field name.now text ∷ [])) }
 {
     if has_bytes(text.as_slice()) {
-        let name = copy(alloc, name)?;
+        let name = copied(alloc, name)?;
         fields.push((name, text))?;
     }
     Ok(())

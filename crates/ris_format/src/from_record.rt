@@ -18,9 +18,9 @@ use crate::kinds::{Kind, is};
 use crate::lines::push_single;
 use crate::pages::{push_end, push_start};
 use crate::people::{is_refused, push_people};
-use crate::text::{copy, has_bytes};
+use crate::text::has_bytes;
 use bib_data::Record;
-use bib_scan::{Seq, Text};
+use bib_scan::{Seq, Text, copied};
 use ris_text::{RisLine, RisRecord, write_line};
 use std::alloc::{AllocError, Global};
 
@@ -195,7 +195,7 @@ fn push_dropped(
     ensures { OnOk result (names.new.items ≡ (if is_dropped kind field.now then names.old.items ++ field.now.0 ∷ [] else names.old.items)) }
 {
     if is_dropped(alloc, kind, field)? {
-        let name = copy(alloc, field.0.as_slice())?;
+        let name = copied(alloc, field.0.as_slice())?;
         names.push(name)?;
     }
     Ok(())
@@ -230,7 +230,7 @@ fn record_of(alloc: Global, kind: Kind, entry: &Record) -> Result<RisRecord, All
     ensures { IfOk result (λ r. r ≡ record { kind_name = ris_type kind; lines = lines_of (written kind entry.now) }) }
 {
     Ok(RisRecord {
-        kind_name: copy(alloc, kind.ris_type())?,
+        kind_name: copied(alloc, kind.ris_type())?,
         lines: Seq::from_vec(record_lines(alloc, kind, entry)?),
     })
 }

@@ -5,7 +5,7 @@ ghost use Rattle.ris_text.specs.declared.records.RisLine.{RisLine as Line};
 ghost use Rattle.ris_text.specs.Writing.{written, ended};
 ghost use Rattle.ris_format.specs.Lines.{line};
 
-use crate::text::copy;
+use bib_text::copied;
 use ris_text::{RisLine, write_line};
 use std::alloc::{AllocError, Global};
 
@@ -33,7 +33,7 @@ impl Kept for RisLine {
         tag: [u8; 2],
         value: &[u8],
     ) -> Result<(), AllocError> {
-        let value = copy(alloc, value)?;
+        let value = copied(alloc, value)?;
         lines.push(RisLine { tag, value })?;
         Ok(())
     }

@@ -5,9 +5,9 @@ ghost use Rattle.ris_format.specs.Entry.{value_field, entry_of, are_balanced};
 ghost use Rattle.ris_format.specs.declared.fault.MappingFault.TheVariants.{Memory, UnbalancedText};
 
 use crate::fault::MappingFault;
-use crate::text::{balances, copy, copy_with_room, in_braces};
+use crate::text::{balances, copy_with_room, in_braces};
 use bib_data::{NewEntry, Record};
-use bib_scan::{Seq, Text};
+use bib_scan::{Seq, Text, copied};
 use std::alloc::{AllocError, Global};
 use std::mem;
 
@@ -27,7 +27,7 @@ fn are_balanced(entry: &Record) -> bool
 fn brace(alloc: Global, field: &mut (Text, Text)) -> Result<(), AllocError>
     ensures { OnOk result (field.new ≡ value_field field.old) }
 {
-    let text = mem::replace(&mut field.1, Seq::from_vec(Vec::new(alloc)));
+    let text = mem::replace(&mut field.1, Seq::empty(alloc));
     field.1 = in_braces(text)?;
     Ok(())
 }
@@ -46,7 +46,7 @@ fn brace_all(alloc: Global, fields: &mut Vec<(Text, Text)>) -> Result<(), AllocE
 fn braced(alloc: Global, field: &(Text, Text)) -> Result<(Text, Text), AllocError>
     ensures { IfOk result (λ braced. braced ≡ value_field field.now) }
 {
-    let name = copy(alloc, field.0.as_slice())?;
+    let name = copied(alloc, field.0.as_slice())?;
     let text = in_braces(copy_with_room(alloc, field.1.as_slice())?)?;
     Ok((name, text))
 }
@@ -75,8 +75,8 @@ pub fn to_entry(alloc: Global, given: &Record) -> Result<NewEntry, MappingFault>
     if !are_balanced(given) {
         return Err(MappingFault::UnbalancedText);
     }
-    let kind_name = copy(alloc, given.kind_name.as_slice())?;
-    let key = copy(alloc, given.key.as_slice())?;
+    let kind_name = copied(alloc, given.kind_name.as_slice())?;
+    let key = copied(alloc, given.key.as_slice())?;
     let fields = all_braced(alloc, given.fields.as_slice())?;
     Ok(NewEntry {
         kind_name,

@@ -10,8 +10,8 @@ ghost use Rattle.ris_format.specs.Pages.{is_no_hyphen, begins_with_hyphen, befor
 use crate::keeping::Kept;
 use crate::kinds::is;
 use crate::lines::push_single;
-use crate::text::{copy, has_bytes};
-use bib_scan::{Seq, Text};
+use crate::text::has_bytes;
+use bib_scan::{Seq, Text, copied};
 use bib_text::is_space;
 use std::alloc::{AllocError, Global};
 
@@ -158,10 +158,10 @@ pub(crate) fn read_pages(alloc: Global, start: &[u8], end: &[u8]) -> Result<Text
     ensures { IfOk result (λ t. t ≡ read_pages start.now end.now) }
 {
     if !has_bytes(start) {
-        return copy(alloc, end);
+        return copied(alloc, end);
     }
     if !has_bytes(end) {
-        return copy(alloc, start);
+        return copied(alloc, start);
     }
     let mut text = Vec::from_slice(alloc, start)?;
     text.extend_from_slice(b"--")?;

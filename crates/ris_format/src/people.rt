@@ -10,10 +10,10 @@ use crate::braces::Braces;
 use crate::keeping::Kept;
 use crate::kinds::is;
 use crate::text::{
-    balances, copy, copy_with_room, has_bytes, in_braces, join, piece_between, with_comma,
+    balances, copy_with_room, has_bytes, in_braces, join, piece_between, with_comma,
 };
 use bib_names::{Name, NameFault, Word, split_name, split_names};
-use bib_scan::{Seq, Text};
+use bib_scan::{Seq, Text, copied};
 use bib_text::is_space;
 use std::alloc::{AllocError, Global};
 use std::marker::Model;
@@ -101,7 +101,7 @@ impl<'a> Person<'a> {
         if has_bytes(self.first) {
             return with_comma(alloc, self.last, self.first);
         }
-        copy(alloc, self.last)
+        copied(alloc, self.last)
     }
 
     /// `Last`, `Last, First` or `Last, Jr, First`.
@@ -120,7 +120,7 @@ impl<'a> Person<'a> {
         if has_bytes(self.first) {
             return with_comma(alloc, self.last, self.first);
         }
-        copy(alloc, self.last)
+        copied(alloc, self.last)
     }
 }
 
@@ -150,7 +150,7 @@ fn listed_names(alloc: Global, list: &[u8]) -> Result<Seq<&[u8]>, AllocError>
 {
     match split_names(alloc, list) {
         Ok(names) => Ok(names),
-        Err(NameFault::UnbalancedName) => Ok(Seq::from_vec(Vec::new(alloc))),
+        Err(NameFault::UnbalancedName) => Ok(Seq::empty(alloc)),
         Err(_) => Err(AllocError),
     }
 }
@@ -355,7 +355,7 @@ fn read_name(alloc: Global, value: &[u8]) -> Result<Text, AllocError>
     if balances(value) {
         read_balanced(alloc, value)
     } else {
-        copy(alloc, value)
+        copied(alloc, value)
     }
 }
 
@@ -372,7 +372,7 @@ pub(crate) fn read_people(alloc: Global, values: &[&[u8]]) -> Result<Text, Alloc
     ensures { IfOk result (λ list. list ≡ read_people (map (λ v. v.now) values.now)) }
 {
     let [first, rest @ ..] = values else {
-        return Ok(Seq::from_vec(Vec::new(alloc)));
+        return Ok(Seq::empty(alloc));
     };
     let mut list = read_name(alloc, first)?.into_vec();
     for value in rest {

@@ -46,13 +46,6 @@ pub(crate) fn copy_with_room(alloc: Global, text: &[u8]) -> Result<Text, AllocEr
     Ok(Seq::from_vec(out))
 }
 
-/// A copy of the text.
-pub(crate) fn copy(alloc: Global, text: &[u8]) -> Result<Text, AllocError>
-    ensures { IfOk result (λ t. t ≡ text.now) }
-{
-    Ok(Seq::from_vec(Vec::from_slice(alloc, text)?))
-}
-
 /// The two texts with a comma and a space between them.
 pub(crate) fn with_comma(alloc: Global, text: &[u8], more: &[u8]) -> Result<Text, AllocError>
     ensures { IfOk result (λ t. t ≡ with_comma text.now more.now) }
@@ -80,7 +73,7 @@ pub(crate) fn join(alloc: Global, between: &[u8], texts: &[&[u8]]) -> Result<Tex
     ensures { IfOk result (λ t. t ≡ join_by (λ x. x) between.now (map (λ x. x.now) texts.now)) }
 {
     let [first, rest @ ..] = texts else {
-        return Ok(Seq::from_vec(Vec::new(alloc)));
+        return Ok(Seq::empty(alloc));
     };
     let mut out = Vec::from_slice(alloc, first)?;
     for text in rest {

@@ -14,9 +14,9 @@ use crate::kinds::Kind;
 use crate::lines::{are_neat_lines, or_else, read_lines, value_at, values_at};
 use crate::pages::read_pages;
 use crate::people::read_people;
-use crate::text::{copy, join};
+use crate::text::join;
 use bib_data::Record;
-use bib_scan::{Seq, Text};
+use bib_scan::{Seq, Text, copied};
 use ris_text::{RisLine, RisRecord};
 use std::alloc::{AllocError, Global};
 
@@ -190,8 +190,8 @@ fn record_in(alloc: Global, kind: Kind, lines: &[RisLine]) -> Result<Record, All
 {
     let fields = read_fields(alloc, kind, lines)?;
     Ok(Record {
-        kind_name: copy(alloc, kind.entry_type())?,
-        key: copy(alloc, value_at(&[*b"ID"], lines))?,
+        kind_name: copied(alloc, kind.entry_type())?,
+        key: copied(alloc, value_at(&[*b"ID"], lines))?,
         fields: Seq::from_vec(fields),
     })
 }

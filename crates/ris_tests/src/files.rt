@@ -1,12 +1,12 @@
 //! Files read, refused and written.
 
-use bib_scan::{Seq, Text};
+use bib_scan::{Seq, Text, copied};
 use ris_text::{RisFault, RisLine, RisRecord, are_well_formed, read_ris, write_ris};
 use std::alloc::Global;
 use std::test::Fail;
 
 fn owned(alloc: Global, text: &[u8]) -> Result<Text, RisFault> {
-    Ok(Seq::from_vec(Vec::from_slice(alloc, text)?))
+    Ok(copied(alloc, text)?)
 }
 
 /// The records of a file, written as text again, if they can be written.

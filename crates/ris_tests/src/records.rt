@@ -1,14 +1,14 @@
 //! Worked examples of the mapping.
 
 use bib_data::Record;
-use bib_scan::{Seq, Text};
+use bib_scan::{Seq, Text, copied};
 use ris_format::{MappingFault, from_ris, in_profile, into_entry, to_entry, to_ris};
 use ris_text::{RisLine, RisRecord};
 use std::alloc::Global;
 use std::test::Fail;
 
 fn owned(alloc: Global, text: &[u8]) -> Result<Text, MappingFault> {
-    Ok(Seq::from_vec(Vec::from_slice(alloc, text)?))
+    Ok(copied(alloc, text)?)
 }
 
 /// A record of this type with the key `k1` and these fields.

@@ -13,7 +13,7 @@ use crate::sessions::{message_of, open_with, outcome_after, session_fault_name, 
 use bib_answers::{Answer, outcome_of, too_long};
 use bib_data::Request;
 use bib_journal::{Performed, Saved, Session, SessionFault, perform};
-use bib_scan::{FILE_LIMIT, Text};
+use bib_scan::{FILE_LIMIT, Text, copied};
 use bib_script::{Script, read_script, read_words};
 use bib_store::Paged;
 use bib_words::status;
@@ -124,7 +124,7 @@ fn edit_alone(
 fn bad_words(alloc: Global) -> Result<Answer, AllocError>
     ensures { IfOk result (λ answer. answer ≡ answer_of (applied_line 0) bad_words_line 1) }
 {
-    let message = Text::from_vec(Vec::from_slice(alloc, BAD_WORDS)?);
+    let message = copied(alloc, BAD_WORDS)?;
     Ok(Answer {
         output: applied_line(alloc, 0)?,
         outcome: outcome_of(message, status::REFUSED),

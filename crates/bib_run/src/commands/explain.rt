@@ -6,7 +6,7 @@ ghost use Rattle.bib_answers.specs.Outcome.{answer_of};
 ghost use Rattle.bib_run.specs.Explaining.{head_lines, no_such_fault_line, IsExplainAnswer};
 
 use bib_answers::{Answer, done, refused};
-use bib_scan::Text;
+use bib_scan::{Text, copied};
 use fault_pages::{Page, page_of};
 use std::alloc::{AllocError, Global};
 
@@ -43,6 +43,6 @@ fn add_head(text: &mut Vec<u8>, number: &[u8], name: &[u8]) -> Result<(), AllocE
 fn no_such_fault(alloc: Global) -> Result<Answer, AllocError>
     ensures { IfOk result (λ answer. answer ≡ answer_of [] no_such_fault_line 1) }
 {
-    let message = Text::from_vec(Vec::from_slice(alloc, b"bibkeep: 13 NoSuchFault\n")?);
+    let message = copied(alloc, b"bibkeep: 13 NoSuchFault\n")?;
     Ok(refused(alloc, message))
 }

@@ -15,7 +15,7 @@ use bib_answers::{Answer, placed_line, refused, too_long};
 use bib_data::{Edit, NewEntry};
 use bib_journal::{Session, SessionFault};
 use bib_ris::{Additions, ImportFault, import};
-use bib_scan::{FILE_LIMIT, Seq, Text};
+use bib_scan::{FILE_LIMIT, Seq, Text, copied};
 use bib_store::Paged;
 use ris_text::RisFault;
 use std::alloc::{AllocError, Global};
@@ -122,10 +122,7 @@ fn unread(alloc: Global, fault: ImportFault) -> Result<Answer, AllocError>
 {
     match fault {
         ImportFault::Unread(fault) => Ok(refused(alloc, unread_line(alloc, fault)?)),
-        ImportFault::UnbalancedText => Ok(refused(
-            alloc,
-            Text::from_vec(Vec::from_slice(alloc, UNBALANCED_TEXT)?),
-        )),
+        ImportFault::UnbalancedText => Ok(refused(alloc, copied(alloc, UNBALANCED_TEXT)?)),
         ImportFault::Memory => Err(AllocError),
     }
 }

@@ -134,11 +134,11 @@ fn new_journal(alloc: Global, session: &Session<Paged>) -> Result<Answer, AllocE
         return Err(AllocError);
     };
     Ok(Answer {
-        output: Text::from_vec(Vec::new(alloc)),
+        output: Text::empty(alloc),
         outcome: Outcome {
             file: None,
             journal: Some(saved.journal),
-            message: Text::from_vec(Vec::new(alloc)),
+            message: Text::empty(alloc),
             status: status::DONE,
         },
     })

@@ -8,4 +8,4 @@ pub returns-clause-removal : goal.returns-clause-removal
 returns-clause-removal g c db reads =
     piece_from _ _ _ _ _ _ (c.item_place.ensures db reads)
     (c.in_ok-copied.ensures ∙ c.body_of.ensures db reads)
-    (c.from_vec.ensures ∙ c.new.ensures.items)
+    c.empty.ensures

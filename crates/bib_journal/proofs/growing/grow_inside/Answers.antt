@@ -17,12 +17,12 @@ make_inside-made-requires-clause-short_ends g c =
 pub returns-clause-ends : goal.returns-clause-ends
 returns-clause-ends g c =
     let taken : c.into_vec-list.result.items ≡ c.args.step.now.pieces = search rules in
-    let joined : c.from_vec-2.result ≡ composed c.args.step.now.pieces c.args.pieces.now
-    = c.from_vec-2.ensures ∙ c.in_ok-made.ensures.list
+    let joined : c.from_vec.result ≡ composed c.args.step.now.pieces c.args.pieces.now
+    = c.from_vec.ensures ∙ c.in_ok-made.ensures.list
     ∙ joined_inside c.args.step.now.pieces c.into_vec-list.result.items c.args.pieces.now c.args.spot.position c.args.spot.byte c.index-pieces-0.result c.requires.inside c.index-pieces-0.is taken in
     record {
       apart = subst (λ (ps : List Piece). StandApart ps []) (sym joined) (composed-stand_apart c.args.step.now.pieces c.args.pieces.now);
-      each = c.in_ok-made.ensures.ends ∙ ap ends_of (sym c.from_vec-2.ensures);
+      each = c.in_ok-made.ensures.ends ∙ ap ends_of (sym c.from_vec.ensures);
     }
 
 pub edited_len-requires-clause-inside : goal.edited_len-requires-clause-inside

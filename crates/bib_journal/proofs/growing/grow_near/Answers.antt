@@ -30,6 +30,6 @@ returns-clause-ends g c =
     let joined : amended c.in_ok-change.change c.into_vec-list.result.items ≡ composed c.args.step.now.pieces c.args.pieces.now
     = ap (amended c.in_ok-change.change) (taken ∙ sym was) ∙ c.in_ok-change.ensures.value ∙ ap (λ (ps : List Piece). composed ps c.args.pieces.now) was in
     record {
-      apart = subst (λ (ps : List Piece). StandApart ps []) (sym (c.from_vec-2.ensures ∙ c.in_ok-made.ensures.list ∙ joined)) (composed-stand_apart c.args.step.now.pieces c.args.pieces.now);
-      each = c.in_ok-made.ensures.ends ∙ ap ends_of (sym c.from_vec-2.ensures);
+      apart = subst (λ (ps : List Piece). StandApart ps []) (sym (c.from_vec.ensures ∙ c.in_ok-made.ensures.list ∙ joined)) (composed-stand_apart c.args.step.now.pieces c.args.pieces.now);
+      each = c.in_ok-made.ensures.ends ∙ ap ends_of (sym c.from_vec.ensures);
     }

@@ -26,5 +26,5 @@ loop-place-preserved c =
 pub returns : goal.returns
 returns c =
     let text = c.args.text.now in
-    rw (c.from_vec-2.ensures, c.in_ok-push-2.ensures.items, map-append, c.name_between-2.ensures)
+    rw (c.from_vec.ensures, c.in_ok-push-2.ensures.items, map-append, c.name_between-2.ensures)
     (names_end text _ _ c.loop-place.place (omega arith) c.loop-place.invariant.names ∙ names_of-words text (sym c.is_blank.ensures ∙ c.if-is_blank.false))

@@ -11,7 +11,7 @@ returns-in_ok-bad_journal_line-in-BadJournal c =
     subst (λ (f : SessionFault). Tells f c.refused.result) (sym c.in-BadJournal.is)
     (tells_journal c.in-BadJournal.place c.refused.result (c.refused.ensures ∙ ap (λ (m : Text). answer_of [] m 1) c.in_ok-bad_journal_line-in-BadJournal.ensures))
 
-pub returns-in_ok-from_slice-in-JournalMismatch : goal.returns-in_ok-from_slice-in-JournalMismatch
-returns-in_ok-from_slice-in-JournalMismatch c =
+pub returns-in_ok-copied-in-JournalMismatch : goal.returns-in_ok-copied-in-JournalMismatch
+returns-in_ok-copied-in-JournalMismatch c =
     subst (λ (f : SessionFault). Tells f c.refused-in-JournalMismatch.result) (sym c.in-JournalMismatch.is)
     (tells_mismatch c.refused-in-JournalMismatch.result (c.refused-in-JournalMismatch.ensures ∙ ap (λ (m : Text). answer_of [] m 1) (search rules)))

@@ -3,4 +3,4 @@ use Rattle.bib_value.proofs.spacing.field_text.Goals as goal
 
 pub returns-then-is_neat-clause-text : goal.returns-then-is_neat-clause-text
 returns-then-is_neat-clause-text c =
-    c.from_vec.ensures ∙ c.in_ok-from_slice.ensures.items ∙ sym (c.is_neat.ensures.own (search rules))
+    c.in_ok-copied.ensures ∙ sym (c.is_neat.ensures.own (search rules))

@@ -12,4 +12,4 @@ loop-value-preserved c =
     (made_more on (λ (v : Bor Text). codes " and " ++ read_name v.now) _ c.loop-value.value-index _ c.loop-value.list.items _ (λ x rest. refl) c.loop-value-test.true c.loop-value.invariant)
 
 pub returns : goal.returns
-returns c = c.from_vec-2.ensures ∙ made_all on _ c.loop-value.value-index c.loop-value.list.items _ refl c.loop-value-test.false c.loop-value.invariant
+returns c = c.from_vec.ensures ∙ made_all on _ c.loop-value.value-index c.loop-value.list.items _ refl c.loop-value-test.false c.loop-value.invariant

@@ -17,4 +17,4 @@ loop-text-preserved c =
     (made_more (on between) (λ (x : Bor Text). between ++ x.now) _ c.loop-text.text-index _ c.loop-text.out.items _ (λ x rest. refl) c.loop-text-test.true c.loop-text.invariant)
 
 pub returns : goal.returns
-returns c = c.from_vec-2.ensures ∙ made_all (on c.args.between.now) _ c.loop-text.text-index c.loop-text.out.items _ refl c.loop-text-test.false c.loop-text.invariant
+returns c = c.from_vec.ensures ∙ made_all (on c.args.between.now) _ c.loop-text.text-index c.loop-text.out.items _ refl c.loop-text-test.false c.loop-text.invariant
