@@ -14,13 +14,26 @@ pub(crate) struct PageStart {
     pub byte: usize,
 }
 
-/// The last page with a known start that begins no later than item `n`: found at once if the pages before it are full. Only
-/// time depends on it.
+/// How many pages are tried before all starts are searched.
+const NEAR: usize = 4;
+
+/// The last page with a known start that begins no later than item `n`. It is found in a few steps if nearly all pages before
+/// it are full, since no page before item `n` can have more items. Only time depends on it.
 fn last_begun(starts: &[PageStart], n: usize) -> usize {
-    let full = n / PAGE_LIMIT;
-    if full < starts.len() && starts[full].item == n - n % PAGE_LIMIT {
-        return full;
+    let least = n / PAGE_LIMIT;
+    'near: for p in least..least.saturating_add(NEAR) {
+        let Some(next) = starts.get(p + 1) else {
+            return search(starts, n);
+        };
+        if n < next.item {
+            return p;
+        }
     }
+    search(starts, n)
+}
+
+/// The same, by a search in all starts.
+fn search(starts: &[PageStart], n: usize) -> usize {
     starts
         .partition_point(|start| start.item <= n)
         .saturating_sub(1)

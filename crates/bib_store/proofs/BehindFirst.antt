@@ -6,7 +6,7 @@ use Rattle.std.proofs.lemmas.List.{length-take-le}
 use Rattle.bib_spec.specs.Reading as reading
 use Rattle.bib_items.specs.declared.list.Item.{Item}
 use Rattle.bib_store.proofs.Appended.{fit_alike}
-use Rattle.bib_store.proofs.InsertedRuns.{again_put, stay_put, gone_put, long_now, long_new}
+use Rattle.bib_store.proofs.InsertedRuns.{again_put, come_put, stay_put, gone_put, long_now, long_new}
 use Rattle.bib_store.proofs.FirmTables.{firm_short}
 use Rattle.bib_store.proofs.Followed.{between_later}
 use Rattle.bib_store.proofs.FollowedFiles.{bodies-stored}
@@ -127,6 +127,15 @@ module _ (c : Change) (old now : List Item) (count : ℕ) (put : ArePut c old no
   new_first_items =
       stored_items _ new_first (All-take (IsItem name_limit) 1 inner.items reads.items)
       (ap bodies_in (again_put c old now count 1 put has_lead inner reads ∙ take-map stored 1 inner.items))
+
+  -- the others
+  pub new_others_items : AreItemsOf (bodies_between (from + 1) (from + count) now) new_others
+  new_others_items =
+      stored_items _ new_others (All-drop (IsItem name_limit) 1 inner.items reads.items)
+      (ap bodies_in (come_put c old now count 1 put has_lead inner reads ∙ drop-map stored 1 inner.items))
+
+  pub new_others_good : All (IsItem name_limit) new_others
+  new_others_good = All-drop (IsItem name_limit) 1 inner.items reads.items
 
   new_pass : (u : Tables) → IsFirm u → MayPass u (bodies_between from (from + 1) now) new_first
   new_pass u still = record { are = new_first_items; may = inr still }

@@ -55,7 +55,7 @@ counted_items bodies items are = sym (length-map items (λ (i : reading.Item). t
 
 -- ---- the bodies of a stretch
 
-length-taken : (items : List Item) (from to : ℕ) → from ≤ to → to ≤ length items → length (between from to items) ≡ to - from
+pub length-taken : (items : List Item) (from to : ℕ) → from ≤ to → to ≤ length items → length (between from to items) ≡ to - from
 length-taken items from to order within = length-take-le (to - from) (drop from items) (omega (arith, order, within, length-drop from items))
 
 pub length-between : (items : List Item) (from to : ℕ) → from ≤ to → to ≤ length items → length (bodies_between from to items) ≡ to - from

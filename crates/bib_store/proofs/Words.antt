@@ -42,9 +42,10 @@ pub use Rattle.bib_store.specs.Runs.{AreFollowed, IsMeasured, IsRunChange, LeadW
 pub use Rattle.bib_store.specs.Stored.{IsKept, IsKeptAs, file_of}
 pub use Rattle.bib_store.specs.Tables.{is_preamble_tree, preamble_numbers}
 pub use Rattle.bib_store.specs.TablesOf.{AreNotesOf, AreTables, AreTablesOf, HasItems, IsInsertion, IsRemoval, IsStep, IsTooLongAt, OfView, SayTheSame, item_with}
-pub use Rattle.bib_store.specs.Windows.{ArePut, HasLead, IsLead, IsWindow, OfJoined, Serve, bytes_after, bytes_before, bytes_within, exchanged, front_before, front_within, joined}
+pub use Rattle.bib_store.specs.Windows.{ArePut, AreNoted, HasLead, IsLead, IsWindow, OfJoined, OfPut, SayTheSameBefore, Serve, bytes_after, bytes_before, bytes_within, exchanged, front_before, front_within, change_put, joined}
 pub use Rattle.bib_store.specs.declared.bounds.Bounds.{Bounds}
 pub use Rattle.bib_store.specs.declared.change.Change.{Change}
+pub use Rattle.bib_store.specs.declared.change.PutItems.{PutItems}
 pub use Rattle.bib_store.specs.declared.item_fault.ItemFault.{ItemFault}
 pub use Rattle.bib_store.specs.declared.item_fault.ItemFault.TheVariants.{TooLong}
 pub use Rattle.bib_store.specs.declared.tables.Tables.{Tables}

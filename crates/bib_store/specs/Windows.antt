@@ -6,14 +6,15 @@ use Rattle.bib_spec.specs.Text.{Text}
 use Rattle.bib_spec.specs.Reading as reading
 use Rattle.bib_spec.specs.Reading.{Reading, Reads, HasReading}
 use Rattle.bib_spec.specs.Pieces.{Piece, Fit, applied}
-use Rattle.bib_scan.specs.Layout.{IsLayoutOf}
+use Rattle.bib_scan.specs.Layout.{IsLayoutOf, Places}
 use Rattle.bib_items.specs.declared.list.Item.{Item}
 use Rattle.bib_store.specs.declared.window.Window.{Window}
 use Rattle.bib_store.specs.declared.change.Change.{Change}
+use Rattle.bib_store.specs.declared.change.PutItems.{PutItems}
 use Rattle.bib_store.specs.declared.tables.Tables.{Tables}
 use Rattle.bib_items.specs.Items.{kept_bytes, all_stored}
-use Rattle.bib_store.specs.Stored.{file_of, IsKeptAs}
-use Rattle.bib_store.specs.TablesOf.{HasItems}
+use Rattle.bib_store.specs.Stored.{file_of, IsKeptAs, SayTheSameOf}
+use Rattle.bib_store.specs.TablesOf.{HasItems, AreNotesOf}
 use Rattle.bib_store.specs.Following.{bodies_between}
 
 -- the window lies in the items, and it begins the file if it has the front
@@ -94,6 +95,22 @@ pub record ArePut (c : Change) (old now : List Item) (count : ℕ) : Type 0 wher
   pub window : IsWindow old c.window
   pub counted : (inner : Reading) → Reads c.text inner → count ≡ length inner.items
   pub put : (inner : Reading) → Reads c.text inner → now ≡ take c.window.from old ++ (all_stored inner.items ++ drop c.window.from old)
+
+-- the change whose items these are, if its text is this
+abbrev pub change_put : PutItems → Text → Places → Change
+change_put p text layout = record { window = p.window; file_len = p.file_len; text = text; layout = layout }
+
+-- the notes are those of the items that were put in
+abbrev pub AreNoted : PutItems → List Item → Type 0
+AreNoted p now = AreNotesOf p.notes (between p.window.from (p.window.from + p.count) now)
+
+-- It holds of the file that the change makes, with a front of this length. The change's items are in the list.
+abbrev pub OfPut : PutItems → ℕ → List Item → Tables → (Reading → Type 0) → Type 0
+OfPut p front_len now t P = (text : Text) (layout : Places) (old : List Item) → ArePut (change_put p text layout) old now p.count → OfJoined (change_put p text layout) front_len old t P
+
+-- both tables say the same of the items before the change's items were put in
+abbrev pub SayTheSameBefore : PutItems → List Item → Tables → Tables → Type 0
+SayTheSameBefore p now t u = (text : Text) (layout : Places) (old : List Item) (inner : Reading) → Reads text inner → ArePut (change_put p text layout) old now p.count → SayTheSameOf old t u
 
 -- the change has `count` items, at least `lead`, and so has its window
 pub record HasLead (w : Window) (count lead : ℕ) : Type 0 where

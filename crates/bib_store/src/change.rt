@@ -16,7 +16,7 @@ use crate::window::{Window, text_of};
 use bib_data::Piece;
 use bib_items::{ItemList, StoreFault};
 use bib_pieces::{apply, fits};
-use bib_scan::{FILE_LIMIT, Layout, Seq, Text, read};
+use bib_scan::{FILE_LIMIT, Layout, Note, Seq, Text, copied, read};
 use std::alloc::{AllocError, Global};
 
 /// A window, the text that replaces it, the places of that text's items, and the length of the file afterwards.
@@ -26,6 +26,15 @@ pub(crate) struct Change {
     pub(crate) file_len: usize,
     pub(crate) text: Text,
     pub(crate) layout: Layout,
+}
+
+/// The items of a change that are in the list, before those of its window.
+#[derive(Drop)]
+pub(crate) struct PutItems {
+    pub(crate) window: Window,
+    pub(crate) file_len: usize,
+    pub(crate) count: usize,
+    pub(crate) notes: Seq<Note>,
 }
 
 /// The layout of the text, if it can be part of a file: it can be read, and it either begins with an item or begins the
@@ -191,7 +200,7 @@ pub(crate) fn new_front(alloc: Global, change: &Change) -> Result<Option<Text>, 
         return Ok(None);
     }
     let front = change.layout.front(change.text.as_slice());
-    Ok(Some(Seq::from_vec(front.to_vec(alloc)?)))
+    Ok(Some(copied(alloc, front)?))
 }
 
 /// How long the front is afterwards.

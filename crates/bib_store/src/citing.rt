@@ -97,7 +97,7 @@ impl<L: ItemList> Database<L> {
         if cites_all(keys) {
             return Ok(Cited {
                 listed: Seq::from_vec(all_numbers(alloc, self.entry_count())?),
-                unknown: Seq::from_vec(Vec::new(alloc)),
+                unknown: Seq::empty(alloc),
             });
         }
         let found = self.find_all(keys)?;

@@ -377,12 +377,12 @@ fn kept_notes(alloc: Global, notes: Seq<Note>, file_len: usize) -> Seq<Note>
     if notes.as_slice().len() <= file_len / BYTES_A_NOTE {
         notes
     } else {
-        Seq::from_vec(Vec::new(alloc))
+        Seq::empty(alloc)
     }
 }
 
 /// What was noted of item `n`, if anything.
-fn note_at(notes: &[Note], n: usize) -> Option<Note>
+pub(crate) fn note_at(notes: &[Note], n: usize) -> Option<Note>
     ensures { result ≡ slice_get notes.now n }
 {
     notes.get(n).copied()

@@ -1,6 +1,6 @@
 //! Exchanging items for others.
 
-ghost use Rattle.std.specs.Prelude.{◌≡◌, ◌+◌, ◌≤◌, ◌⊎◌, ℕ, List, None, length, IsTrue, IfOk, IfErr, OnOk, OnErr};
+ghost use Rattle.std.specs.Prelude.{◌≡◌, ◌+◌, ◌≤◌, ◌⊎◌, ℕ, None, length, IsTrue, IfOk, IfErr, OnOk, OnErr};
 ghost use Rattle.bib_spec.specs.Reading.{Reading, Reads};
 ghost use Rattle.bib_spec.specs.Texts.{too_long_at};
 ghost use Rattle.bib_scan.specs.Layout.{IsLayoutOf};
@@ -8,11 +8,10 @@ ghost use Rattle.bib_store.specs.TablesOf.{AreTables};
 ghost use Rattle.bib_store.specs.Following.{MayPassBetween};
 ghost use Rattle.bib_store.specs.Firm.{IsFirm};
 ghost use Rattle.bib_store.specs.Stored.{SayTheSameOf};
-ghost use Rattle.bib_items.specs.declared.list.Item.{Item};
-ghost use Rattle.bib_store.specs.Windows.{IsWindow, IsLead, ArePut, OfJoined, exchanged};
+ghost use Rattle.bib_store.specs.Windows.{IsWindow, IsLead, OfJoined, AreNoted, OfPut, SayTheSameBefore, exchanged};
 ghost use Rattle.bib_items.specs.declared.fault.StoreFault.TheVariants.{Memory, BadSplice};
 
-use crate::change::Change;
+use crate::change::{Change, PutItems};
 use crate::following::{add_to_tables, are_others, remove_from_tables};
 use crate::in_place::{put_behind_first, put_in_place};
 use crate::tables::Tables;
@@ -24,11 +23,11 @@ use std::alloc::Global;
 /// again. Each item takes some steps for each page of the tables, so that for more items it costs less to build them again.
 const FOLLOWED_LIMIT: usize = 64;
 
-const FOLLOWED_SHARE: usize = 16;
 /// In a larger file, the limit is one in this many of all items.
+const FOLLOWED_SHARE: usize = 16;
 
-const FOLLOWED_MOST: usize = 2048;
 /// The limit is never above this.
+const FOLLOWED_MOST: usize = 2048;
 
 /// Replaces the items of a change's window by the change's items, and updates the tables. If each item replaces one of its
 /// kind, with the same key and crossref, the tables are unchanged except for a definition, and the list may keep the memory
@@ -61,7 +60,7 @@ pub(crate) fn exchange<L: ItemList>(
                 Err(fault)
             }
         },
-        None => exchange_all(alloc, front_len, items, tables, &change),
+        None => exchange_all(alloc, front_len, items, tables, change),
     }
 }
 
@@ -103,29 +102,41 @@ fn exchange_one<L: ItemList>(items: &mut L, change: &Change) -> Result<(), Store
     items.replace(change.window.from, body, trail)
 }
 
-/// Replaces the items of a change's window by the change's items, and updates the tables. It is refused if memory runs out
-/// or a raw text is too long; the list is then unchanged, and the tables say what they said.
+/// Replaces the items of a change's window by the change's items, and updates the tables. The list may keep the memory of the
+/// change's text. It is refused if memory runs out or a raw text is too long; the list is then unchanged, and the tables say
+/// what they said.
 fn exchange_all<L: ItemList>(
     alloc: Global,
     front_len: usize,
     items: &mut L,
     tables: &mut Tables,
-    change: &Change,
+    change: Change,
 ) -> Result<(), StoreFault>
-    requires window { IsWindow (L.items items.old) change.now.window }
-    requires layout { IsLayoutOf change.now.text change.now.layout }
-    ensures items { OnOk result ((inner : Reading) → Reads change.now.text inner → L.items items.new ≡ exchanged change.now.window inner.items (L.items items.old)) }
-    ensures tables { OnOk result (OfJoined change.now front_len (L.items items.old) tables.old (λ db. AreTables db tables.new × (too_long_at db ≡ None))) }
-    ensures len { OnOk result (tables.new.file_len ≡ change.now.file_len) }
-    ensures refused { IfErr result (λ fault. fault ≡ BadSplice → OfJoined change.now front_len (L.items items.old) tables.old (λ db. too_long_at db ≡ None → ⊥)) }
+    requires window { IsWindow (L.items items.old) change.window }
+    requires layout { IsLayoutOf change.text change.layout }
+    ensures items { OnOk result ((inner : Reading) → Reads change.text inner → L.items items.new ≡ exchanged change.window inner.items (L.items items.old)) }
+    ensures tables { OnOk result (OfJoined change front_len (L.items items.old) tables.old (λ db. AreTables db tables.new × (too_long_at db ≡ None))) }
+    ensures len { OnOk result (tables.new.file_len ≡ change.file_len) }
+    ensures refused { IfErr result (λ fault. fault ≡ BadSplice → OfJoined change front_len (L.items items.old) tables.old (λ db. too_long_at db ≡ None → ⊥)) }
     ensures only { IfErr result (λ fault. (fault ≡ BadSplice) ⊎ (fault ≡ Memory)) }
     ensures err { OnErr result ((L.items items.new ≡ L.items items.old) × SayTheSameOf (L.items items.old) tables.old tables.new) }
 {
-    let window = change.window;
     let old_count = items.count();
-    items.insert_all(window.from, change.text.as_slice(), &change.layout)?;
+    let Change {
+        window,
+        file_len,
+        text,
+        layout,
+    } = change;
+    items.take_in(window.from, text.into_vec(), &layout)?;
     let count = items.count() - old_count;
-    match renew(alloc, front_len, items, tables, change, count) {
+    let put = PutItems {
+        window,
+        file_len,
+        count,
+        notes: layout.into_notes(),
+    };
+    match renew(alloc, front_len, items, tables, &put) {
         Ok(()) => {
             items.remove_range(window.from + count, window.to + count);
             Ok(())
@@ -137,33 +148,31 @@ fn exchange_all<L: ItemList>(
     }
 }
 
-/// Updates the tables for a change whose `count` items are in the list, before the items of the window that they replace.
-/// If few items come and go, and none is a definition or nothing depends on definitions, the tables are updated item by item.
-/// An item that only gets another trail neither comes nor goes. If it is refused, the tables say what they said. No item
-/// changes.
+/// Updates the tables for a change whose items are in the list. If few items come and go, and none is a definition or nothing
+/// depends on definitions, the tables are updated item by item. An item that only gets another trail neither comes nor goes.
+/// If it is refused, the tables say what they said. No item changes.
 fn renew<L: ItemList>(
     alloc: Global,
     front_len: usize,
     items: &mut L,
     tables: &mut Tables,
-    change: &Change,
-    count: usize,
+    put: &PutItems,
 ) -> Result<(), StoreFault>
-    requires ordered { change.now.window.from ≤ change.now.window.to }
-    requires within { change.now.window.to + count ≤ length (L.items items.old) }
-    requires layout { IsLayoutOf change.now.text change.now.layout }
+    requires ordered { put.now.window.from ≤ put.now.window.to }
+    requires within { put.now.window.to + put.now.count ≤ length (L.items items.old) }
+    requires noted { AreNoted put.now (L.items items.old) }
     ensures items { L.items items.new ≡ L.items items.old }
-    ensures tables { OnOk result ((old : List Item) → ArePut change.now old (L.items items.old) count → OfJoined change.now front_len old tables.old (λ db. AreTables db tables.new × (too_long_at db ≡ None))) }
-    ensures len { OnOk result (tables.new.file_len ≡ change.now.file_len) }
-    ensures refused { IfErr result (λ fault. fault ≡ BadSplice → (old : List Item) → ArePut change.now old (L.items items.old) count → OfJoined change.now front_len old tables.old (λ db. too_long_at db ≡ None → ⊥)) }
+    ensures tables { OnOk result (OfPut put.now front_len (L.items items.old) tables.old (λ db. AreTables db tables.new × (too_long_at db ≡ None))) }
+    ensures len { OnOk result (tables.new.file_len ≡ put.now.file_len) }
+    ensures refused { IfErr result (λ fault. fault ≡ BadSplice → OfPut put.now front_len (L.items items.old) tables.old (λ db. too_long_at db ≡ None → ⊥)) }
     ensures only { IfErr result (λ fault. (fault ≡ BadSplice) ⊎ (fault ≡ Memory)) }
-    ensures err { OnErr result ((old : List Item) → (inner : Reading) → Reads change.now.text inner → ArePut change.now old (L.items items.old) count → SayTheSameOf old tables.old tables.new) }
+    ensures err { OnErr result (SayTheSameBefore put.now (L.items items.old) tables.old tables.new) }
 {
-    let lead = unchanged_first(&*items, change.window, count);
-    if !can_follow(&*items, &*tables, change.window, count, lead) {
-        return renew_many(alloc, front_len, items, tables, change, count);
+    let lead = unchanged_first(&*items, put.window, put.count);
+    if !can_follow(&*items, &*tables, put.window, put.count, lead) {
+        return renew_many(alloc, front_len, items, tables, put);
     }
-    match follow(alloc, &*items, tables, change, count, lead) {
+    match follow(alloc, &*items, tables, put, lead) {
         Ok(()) => return Ok(()),
         // firm tables refuse items with which they would not be firm
         Err(fault) => {
@@ -172,7 +181,7 @@ fn renew<L: ItemList>(
             }
         }
     }
-    *tables = remake(alloc, front_len, items, change, count)?;
+    *tables = remake(alloc, front_len, items, put)?;
     Ok(())
 }
 
@@ -183,24 +192,23 @@ fn renew_many<L: ItemList>(
     front_len: usize,
     items: &mut L,
     tables: &mut Tables,
-    change: &Change,
-    count: usize,
+    put: &PutItems,
 ) -> Result<(), StoreFault>
-    requires ordered { change.now.window.from ≤ change.now.window.to }
-    requires within { change.now.window.to + count ≤ length (L.items items.old) }
-    requires layout { IsLayoutOf change.now.text change.now.layout }
+    requires ordered { put.now.window.from ≤ put.now.window.to }
+    requires within { put.now.window.to + put.now.count ≤ length (L.items items.old) }
+    requires noted { AreNoted put.now (L.items items.old) }
     ensures items { L.items items.new ≡ L.items items.old }
-    ensures tables { OnOk result ((old : List Item) → ArePut change.now old (L.items items.old) count → OfJoined change.now front_len old tables.old (λ db. AreTables db tables.new × (too_long_at db ≡ None))) }
-    ensures len { OnOk result (tables.new.file_len ≡ change.now.file_len) }
-    ensures refused { IfErr result (λ fault. fault ≡ BadSplice → (old : List Item) → ArePut change.now old (L.items items.old) count → OfJoined change.now front_len old tables.old (λ db. too_long_at db ≡ None → ⊥)) }
+    ensures tables { OnOk result (OfPut put.now front_len (L.items items.old) tables.old (λ db. AreTables db tables.new × (too_long_at db ≡ None))) }
+    ensures len { OnOk result (tables.new.file_len ≡ put.now.file_len) }
+    ensures refused { IfErr result (λ fault. fault ≡ BadSplice → OfPut put.now front_len (L.items items.old) tables.old (λ db. too_long_at db ≡ None → ⊥)) }
     ensures only { IfErr result (λ fault. (fault ≡ BadSplice) ⊎ (fault ≡ Memory)) }
-    ensures err { OnErr result ((old : List Item) → (inner : Reading) → Reads change.now.text inner → ArePut change.now old (L.items items.old) count → SayTheSameOf old tables.old tables.new) }
+    ensures err { OnErr result (SayTheSameBefore put.now (L.items items.old) tables.old tables.new) }
 {
     items.prepare(usize::MAX);
-    if put_behind_first(alloc, tables, &*items, change, count) {
+    if put_behind_first(alloc, tables, &*items, put) {
         return Ok(());
     }
-    *tables = remake(alloc, front_len, items, change, count)?;
+    *tables = remake(alloc, front_len, items, put)?;
     Ok(())
 }
 
@@ -254,72 +262,70 @@ fn may_pass<L: ItemList>(items: &L, tables: &Tables, from: usize, to: usize) -> 
     tables.is_firm() || are_others(items, from, to)
 }
 
-/// Updates the tables item by item: the change's `count` items come, and those of its window go. The first `lead` items of
-/// both count as the same, and stay in the tables.
+/// Updates the tables item by item: the change's items come, and those of its window go. The first `lead` items of both count
+/// as the same, and stay in the tables.
 fn follow<L: ItemList>(
     alloc: Global,
     items: &L,
     tables: &mut Tables,
-    change: &Change,
-    count: usize,
+    put: &PutItems,
     lead: usize,
 ) -> Result<(), StoreFault>
-    requires within { change.now.window.to + count ≤ length (L.items items.now) }
-    requires lead { IsLead change.now.window count lead (L.items items.now) }
-    requires come { MayPassBetween tables.old (change.now.window.from + lead) (change.now.window.from + count) (L.items items.now) }
-    requires gone { MayPassBetween tables.old (change.now.window.from + count + lead) (change.now.window.to + count) (L.items items.now) }
-    ensures tables { OnOk result ((old : List Item) → (front_len : ℕ) → ArePut change.now old (L.items items.now) count → OfJoined change.now front_len old tables.old (λ db. AreTables db tables.new × (too_long_at db ≡ None))) }
-    ensures len { OnOk result (tables.new.file_len ≡ change.now.file_len) }
+    requires within { put.now.window.to + put.now.count ≤ length (L.items items.now) }
+    requires lead { IsLead put.now.window put.now.count lead (L.items items.now) }
+    requires come { MayPassBetween tables.old (put.now.window.from + lead) (put.now.window.from + put.now.count) (L.items items.now) }
+    requires gone { MayPassBetween tables.old (put.now.window.from + put.now.count + lead) (put.now.window.to + put.now.count) (L.items items.now) }
+    ensures tables { OnOk result ((front_len : ℕ) → OfPut put.now front_len (L.items items.now) tables.old (λ db. AreTables db tables.new × (too_long_at db ≡ None))) }
+    ensures len { OnOk result (tables.new.file_len ≡ put.now.file_len) }
     ensures firm { IsFirm tables.old → IsFirm tables.new }
-    ensures refused { IfErr result (λ fault. fault ≡ BadSplice → (IsFirm tables.new → ⊥) → (old : List Item) → (front_len : ℕ) → ArePut change.now old (L.items items.now) count → OfJoined change.now front_len old tables.old (λ db. too_long_at db ≡ None → ⊥)) }
+    ensures refused { IfErr result (λ fault. fault ≡ BadSplice → (IsFirm tables.new → ⊥) → (front_len : ℕ) → OfPut put.now front_len (L.items items.now) tables.old (λ db. too_long_at db ≡ None → ⊥)) }
     ensures only { IfErr result (λ fault. (fault ≡ BadSplice) ⊎ (fault ≡ Memory)) }
-    ensures err { OnErr result ((old : List Item) → (inner : Reading) → Reads change.now.text inner → ArePut change.now old (L.items items.now) count → SayTheSameOf old tables.old tables.new) }
+    ensures err { OnErr result (SayTheSameBefore put.now (L.items items.now) tables.old tables.new) }
 {
-    let window = change.window;
+    let window = put.window;
     // for the proof: the count fits a usize
     let _ = items.count();
     let first = window.from + lead;
-    let first_old = window.from + count;
+    let first_old = window.from + put.count;
     match add_to_tables(alloc, tables, items, first, first, first_old) {
         Ok(()) => {
-            let to = window.to + count;
+            let to = window.to + put.count;
             remove_from_tables(tables, items, first_old, first_old + lead, to);
-            tables.file_len = change.file_len;
+            tables.file_len = put.file_len;
             Ok(())
         }
         Err(fault) => Err(fault),
     }
 }
 
-/// The tables of all items except those of a change's window, before which the change's `count` items are in the list. The
-/// list is prepared for look-ups of all items first. No item changes.
+/// The tables of all items except those of the window of a change whose items are in the list. The list is prepared for
+/// look-ups of all items first. No item changes.
 fn remake<L: ItemList>(
     alloc: Global,
     front_len: usize,
     items: &mut L,
-    change: &Change,
-    count: usize,
+    put: &PutItems,
 ) -> Result<Tables, StoreFault>
-    requires ordered { change.now.window.from ≤ change.now.window.to }
-    requires within { change.now.window.to + count ≤ length (L.items items.old) }
+    requires ordered { put.now.window.from ≤ put.now.window.to }
+    requires within { put.now.window.to + put.now.count ≤ length (L.items items.old) }
     ensures items { L.items items.new ≡ L.items items.old }
-    ensures tables { IfOk result (λ tables. (old : List Item) → (t : Tables) → ArePut change.now old (L.items items.old) count → OfJoined change.now front_len old t (λ db. AreTables db tables × (too_long_at db ≡ None))) }
-    ensures len { IfOk result (λ tables. tables.file_len ≡ change.now.file_len) }
-    ensures refused { IfErr result (λ fault. fault ≡ BadSplice → (old : List Item) → (t : Tables) → ArePut change.now old (L.items items.old) count → OfJoined change.now front_len old t (λ db. too_long_at db ≡ None → ⊥)) }
+    ensures tables { IfOk result (λ tables. (t : Tables) → OfPut put.now front_len (L.items items.old) t (λ db. AreTables db tables × (too_long_at db ≡ None))) }
+    ensures len { IfOk result (λ tables. tables.file_len ≡ put.now.file_len) }
+    ensures refused { IfErr result (λ fault. fault ≡ BadSplice → (t : Tables) → OfPut put.now front_len (L.items items.old) t (λ db. too_long_at db ≡ None → ⊥)) }
     ensures only { IfErr result (λ fault. (fault ≡ BadSplice) ⊎ (fault ≡ Memory)) }
 {
     items.prepare(usize::MAX);
-    let window = change.window;
+    let window = put.window;
     // for the proof: the count fits a usize
     let _ = items.count();
-    let first_old = window.from + count;
+    let first_old = window.from + put.count;
     match Tables::of(
         alloc,
-        change.file_len,
+        put.file_len,
         front_len,
         &*items,
         first_old,
-        window.to + count,
+        window.to + put.count,
     ) {
         Ok(tables) => Ok(tables),
         Err(fault) => {

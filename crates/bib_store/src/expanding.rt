@@ -6,7 +6,7 @@ use crate::gathering::{Gathered, lower};
 use crate::record::Expanded;
 use bib_data::Record;
 use bib_items::{ItemList, StoreFault};
-use bib_scan::{ItemView, Seq, Text};
+use bib_scan::{ItemView, Seq, Text, copied};
 use std::alloc::Global;
 
 /// Most entries have fewer fields than this. Only time depends on it.
@@ -38,7 +38,7 @@ impl<L: ItemList> Database<L> {
         let alloc = self.allocator();
         let entry = self.entry(n);
         let kind_name = lower(alloc, entry.type_name())?;
-        let key = Seq::from_vec(Vec::from_slice(alloc, entry.key())?);
+        let key = copied(alloc, entry.key())?;
         let mut fields = Gathered::none(alloc)?;
         self.gather(n, &mut fields)?;
         self.gather_inherited(n, depth, &mut fields)?;
@@ -64,7 +64,7 @@ impl<L: ItemList> Database<L> {
         let alloc = self.allocator();
         let entry = self.entry(n);
         let kind_name = lower(alloc, entry.type_name())?;
-        let key = Seq::from_vec(Vec::from_slice(alloc, entry.key())?);
+        let key = copied(alloc, entry.key())?;
         let mut fields = Vec::with_capacity(alloc, names.len().min(FEW))?;
         self.choose(n, &entry, names, &mut fields)?;
         self.choose_inherited(n, depth, names, &mut fields)?;

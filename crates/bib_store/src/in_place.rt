@@ -1,33 +1,33 @@
 //! Items that each replace one of their kind, in tables that are unchanged except for their bounds.
 
-ghost use Rattle.std.specs.Prelude.{◌≡◌, ◌+◌, ◌-◌, ◌≤◌, ◌<◌, ◌^◌, ◌∷◌, [], ℕ, List, true, Option, None, map, length, drop, IsTrue, IsFalse, IfSome, IfOk, OnOk};
+ghost use Rattle.std.specs.Prelude.{◌≡◌, ◌+◌, ◌-◌, ◌≤◌, ◌<◌, ◌^◌, ◌∷◌, [], ℕ, List, true, Option, None, map, length, IsTrue, IsFalse, IfSome, IfOk, OnOk};
 ghost use Rattle.bib_spec.specs.Bytes.{name_limit};
 ghost use Rattle.bib_spec.specs.Tree.{IsTree};
-ghost use Rattle.bib_spec.specs.Reading.{Reading, Reads, Item};
+ghost use Rattle.std.specs.List.{All};
+ghost use Rattle.bib_spec.specs.Reading.{Reading, Reads, Item, IsItem};
 ghost use Rattle.bib_spec.specs.Records.{entry_in, crossref_text};
 ghost use Rattle.bib_scan.specs.Layout.{IsLayoutOf};
 ghost use Rattle.bib_scan.specs.View.{view_of};
 ghost use Rattle.bib_definitions.specs.Definitions.{texts_at};
-ghost use Rattle.bib_store.specs.TablesOf.{AreTables, TakesPlace};
+ghost use Rattle.bib_store.specs.TablesOf.{AreTables, IsNotedAs, TakesPlace};
 ghost use Rattle.bib_store.specs.Bounds.{IsSettledEntry};
-ghost use Rattle.bib_store.specs.Following.{bodies_between};
+ghost use Rattle.bib_store.specs.Following.{AreItemsOf, bodies_between};
 ghost use Rattle.bib_store.specs.InPlace.{HaveOneKey, TakePlaces, with_bounds};
 ghost use Rattle.bib_store.specs.ItemTexts.{first_too_long, placed_texts};
 ghost use Rattle.bib_store.specs.Readings.{is_entry_tree};
-ghost use Rattle.bib_store.specs.Stored.{SayTheSameOf};
-ghost use Rattle.bib_store.specs.Windows.{IsWindow, ArePut, OfJoined};
-ghost use Rattle.bib_items.specs.declared.list.Item.{Item as StoredItem};
+ghost use Rattle.bib_store.specs.Windows.{IsWindow, AreNoted, OfPut, SayTheSameBefore};
 ghost use Rattle.bib_spec.specs.Texts.{too_long_at};
 
 use crate::bounds::Bounds;
-use crate::change::Change;
+use crate::change::{Change, PutItems};
 use crate::crossrefs::{CrossrefText, crossref_within};
+use crate::database::note_at;
 use crate::following::{add_to_tables, remove_from_tables};
 use crate::item_fault::ItemFault;
 use crate::tables::Tables;
 use bib_definitions::Definitions;
 use bib_items::ItemList;
-use bib_scan::{ItemView, Kind, Text};
+use bib_scan::{ItemView, Kind, Note, Text};
 use std::alloc::Global;
 
 /// Whether both are of this kind.
@@ -45,13 +45,15 @@ fn have_one_key(old: &ItemView<'_>, new: &ItemView<'_>) -> bool
     are_both(Kind::Entry, old, new) && old.key() == new.key()
 }
 
-/// What the crossref of an entry says that is item `n`, or replaces it.
+/// What the crossref of an entry says that is item `n`, or replaces it. `note` is what was noted of the entry, if anything.
 fn crossref_at(
     alloc: Global,
     entry: &ItemView<'_>,
     n: usize,
     definitions: &Definitions,
+    note: Option<Note>,
 ) -> Result<CrossrefText, ItemFault>
+    requires { IsNotedAs note entry.now }
     ensures text { IfOk result (λ said. (i : Item) → IsTree name_limit i.tree → is_entry_tree i.tree ≡ true → entry.now ≡ view_of i → map crossref_text (entry_in (texts_at definitions.now n) i.tree) ≡ said.text ∷ []) }
     ensures settled { IfOk result (λ said. said.is_literal ≡ true → IsSettledEntry entry.now said.text) }
     ensures short { OnOk result ((i : Item) → IsTree name_limit i.tree → is_entry_tree i.tree ≡ true → entry.now ≡ view_of i → first_too_long (placed_texts (texts_at definitions.now n) i.tree) ≡ None) }
@@ -61,7 +63,7 @@ fn crossref_at(
         entry,
         &definitions.at(n),
         definitions.longest(),
-        None,
+        note,
     ) {
         Ok(said) => Ok(said),
         Err(fault) => Err(fault),
@@ -80,24 +82,26 @@ fn say_the_same(old: &Option<Text>, new: &Option<Text>) -> bool
 }
 
 /// Replaces the entry that is item `n` in the tables, and returns whether it could. It can't if the keys differ, or what
-/// the crossrefs say.
+/// the crossrefs say. `note` is what was noted of the new entry, if anything.
 fn put_entry(
     alloc: Global,
     tables: &mut Tables,
     n: usize,
     old: &ItemView<'_>,
     new: &ItemView<'_>,
+    note: Option<Note>,
 ) -> bool
+    requires { IsNotedAs note new.now }
     ensures placed { IsTrue result → TakesPlace n old.now new.now tables.old tables.new }
     ensures rest { tables.new ≡ with_bounds tables.new.bounds tables.old }
 {
     if !have_one_key(old, new) {
         return false;
     }
-    let Ok(was) = crossref_at(alloc, old, n, &tables.definitions) else {
+    let Ok(was) = crossref_at(alloc, old, n, &tables.definitions, None) else {
         return false;
     };
-    let Ok(said) = crossref_at(alloc, new, n, &tables.definitions) else {
+    let Ok(said) = crossref_at(alloc, new, n, &tables.definitions, note) else {
         return false;
     };
     if !say_the_same(&was.text, &said.text) {
@@ -143,8 +147,16 @@ fn put_comment(tables: &mut Tables, old: &ItemView<'_>, new: &ItemView<'_>) -> b
     true
 }
 
-/// Replaces item `n` in the tables, and returns whether it could.
-fn put(alloc: Global, tables: &mut Tables, n: usize, old: &ItemView<'_>, new: &ItemView<'_>) -> bool
+/// Replaces item `n` in the tables, and returns whether it could. `note` is what was noted of the new item, if anything.
+fn put(
+    alloc: Global,
+    tables: &mut Tables,
+    n: usize,
+    old: &ItemView<'_>,
+    new: &ItemView<'_>,
+    note: Option<Note>,
+) -> bool
+    requires { IsNotedAs note new.now }
     ensures placed { IsTrue result → TakesPlace n old.now new.now tables.old tables.new }
     ensures rest { tables.new ≡ with_bounds tables.new.bounds tables.old }
 {
@@ -152,46 +164,30 @@ fn put(alloc: Global, tables: &mut Tables, n: usize, old: &ItemView<'_>, new: &I
         return true;
     }
     match new.kind() {
-        Kind::Entry => put_entry(alloc, tables, n, old, new),
+        Kind::Entry => put_entry(alloc, tables, n, old, new, note),
         Kind::Macro => false,
         Kind::Preamble => put_preamble(alloc, tables, n, old, new),
         Kind::Comment => put_comment(tables, old, new),
     }
 }
 
-/// Which items take the places of others: those of a change from item `first` on, of items that the list has from number
-/// `old` on, and the tables from number `at` on.
-#[derive(Clone, Copy)]
-struct Places {
-    first: usize,
-    old: usize,
-    at: usize,
-}
-
-/// Replaces items in the tables by those of the change that take their places, each by one, and returns whether it could for
-/// all.
-fn put_each<L: ItemList>(
-    alloc: Global,
-    tables: &mut Tables,
-    items: &L,
-    change: &Change,
-    places: Places,
-) -> bool
+/// Replaces each item of a change's window in the tables by the item of the change at the same place, and returns whether it
+/// could for all.
+fn put_each<L: ItemList>(alloc: Global, tables: &mut Tables, items: &L, change: &Change) -> bool
+    requires window { IsWindow (L.items items.now) change.now.window }
     requires layout { IsLayoutOf change.now.text change.now.layout }
-    requires first { places.first ≤ length change.now.layout.items }
-    requires within { places.old + (length change.now.layout.items - places.first) ≤ length (L.items items.now) }
-    requires room { places.at + (length change.now.layout.items - places.first) < 2 ^ 64 }
+    requires each { change.now.window.to ≡ change.now.window.from + length change.now.layout.items }
+    requires room { length (L.items items.now) < 2 ^ 64 }
     ensures placed { IsTrue result → (inner : Reading) → Reads change.now.text inner
-        → TakePlaces places.at (bodies_between places.old (places.old + (length change.now.layout.items - places.first)) (L.items items.now)) (drop places.first inner.items) tables.old tables.new }
+        → TakePlaces change.now.window.from (bodies_between change.now.window.from change.now.window.to (L.items items.now)) inner.items tables.old tables.new }
     ensures rest { tables.new ≡ with_bounds tables.new.bounds tables.old }
 {
-    // for the proof: the count fits a usize
-    let _ = items.count();
-    'each: for k in 0..change.layout.len() - places.first {
-        let old = ItemView::of(items.body(places.old + k), b"");
+    let from = change.window.from;
+    'each: for k in 0..change.layout.len() {
+        let old = ItemView::of(items.body(from + k), b"");
         let text = change.text.as_slice();
-        let new = ItemView::of(change.layout.body(text, places.first + k), b"");
-        if !put(alloc, tables, places.at + k, &old, &new) {
+        let new = ItemView::of(change.layout.body(text, k), b"");
+        if !put(alloc, tables, from + k, &old, &new, None) {
             return false;
         }
     }
@@ -221,38 +217,59 @@ pub(crate) fn put_in_place<L: ItemList>(
     // for the proof: the count fits a usize
     let _ = items.count();
     let bounds = tables.bounds;
-    let places = Places {
-        first: 0,
-        old: change.window.from,
-        at: change.window.from,
-    };
-    if put_each(alloc, tables, items, change, places) {
+    if put_each(alloc, tables, items, change) {
         return Some(bounds);
     }
     tables.bounds = bounds;
     None
 }
 
-/// Updates firm tables for a change whose first item comes and goes, as a definition with another name does, and whose other
-/// items each replace one of their kind. The change's `count` items are in the list before those of its window. It returns
-/// whether it could; if not, the tables say what they said. It takes time in the length of these items.
+/// Replaces the items of a window except the first in the tables, each by the item put in at the same place, and returns
+/// whether it could for all. In the tables, the first item put in stands before the window.
+fn put_others<L: ItemList>(alloc: Global, tables: &mut Tables, items: &L, put_in: &PutItems) -> bool
+    requires some { 0 < put_in.now.count }
+    requires within { put_in.now.window.from + put_in.now.count + put_in.now.count ≤ length (L.items items.now) }
+    requires room { length (L.items items.now) < 2 ^ 64 }
+    requires noted { AreNoted put_in.now (L.items items.now) }
+    ensures placed { IsTrue result → (new : List Item) → AreItemsOf (bodies_between (put_in.now.window.from + 1) (put_in.now.window.from + put_in.now.count) (L.items items.now)) new → All (IsItem name_limit) new
+        → TakePlaces (put_in.now.window.from + 2) (bodies_between (put_in.now.window.from + put_in.now.count + 1) (put_in.now.window.from + put_in.now.count + put_in.now.count) (L.items items.now)) new tables.old tables.new }
+    ensures rest { tables.new ≡ with_bounds tables.new.bounds tables.old }
+{
+    let first = put_in.window.from + 1;
+    let first_old = first + put_in.count;
+    'each: for k in 0..put_in.count - 1 {
+        let old_body = items.body(first_old + k);
+        let body = items.body(first + k);
+        let old = ItemView::of(old_body, b"");
+        let new = ItemView::of(body, b"");
+        let note = note_at(put_in.notes.as_slice(), 1 + k);
+        if !put(alloc, tables, first + 1 + k, &old, &new, note) {
+            return false;
+        }
+    }
+    true
+}
+
+/// Updates firm tables for a change whose items are in the list, and whose first item comes and goes, as a definition with
+/// another name does, while its other items each replace one of their kind. It returns whether it could; if not, the tables
+/// say what they said. It takes time in the length of these items.
 pub(crate) fn put_behind_first<L: ItemList>(
     alloc: Global,
     tables: &mut Tables,
     items: &L,
-    change: &Change,
-    count: usize,
+    put_in: &PutItems,
 ) -> bool
-    requires ordered { change.now.window.from ≤ change.now.window.to }
-    requires within { change.now.window.to + count ≤ length (L.items items.now) }
-    requires layout { IsLayoutOf change.now.text change.now.layout }
-    ensures tables { IsTrue result → (old : List StoredItem) → (front_len : ℕ) → ArePut change.now old (L.items items.now) count → OfJoined change.now front_len old tables.old (λ db. AreTables db tables.new × (too_long_at db ≡ None)) }
-    ensures len { IsTrue result → tables.new.file_len ≡ change.now.file_len }
-    ensures same { IsFalse result → (old : List StoredItem) → (inner : Reading) → Reads change.now.text inner → ArePut change.now old (L.items items.now) count → SayTheSameOf old tables.old tables.new }
+    requires ordered { put_in.now.window.from ≤ put_in.now.window.to }
+    requires within { put_in.now.window.to + put_in.now.count ≤ length (L.items items.now) }
+    requires noted { AreNoted put_in.now (L.items items.now) }
+    ensures tables { IsTrue result → (front_len : ℕ) → OfPut put_in.now front_len (L.items items.now) tables.old (λ db. AreTables db tables.new × (too_long_at db ≡ None)) }
+    ensures len { IsTrue result → tables.new.file_len ≡ put_in.now.file_len }
+    ensures same { IsFalse result → SayTheSameBefore put_in.now (L.items items.now) tables.old tables.new }
 {
-    let from = change.window.from;
-    let touched = change.window.to - from;
-    if touched == 0 || touched != count || count != change.layout.len() || !tables.is_firm() {
+    let from = put_in.window.from;
+    let count = put_in.count;
+    let touched = put_in.window.to - from;
+    if touched == 0 || touched != count || !tables.is_firm() {
         return false;
     }
     // for the proof: the count fits a usize
@@ -262,14 +279,9 @@ pub(crate) fn put_behind_first<L: ItemList>(
         Err(_) => return false,
     }
     let bounds = tables.bounds;
-    let places = Places {
-        first: 1,
-        old: from + count + 1,
-        at: from + 2,
-    };
-    if put_each(alloc, tables, items, change, places) && tables.is_firm() {
+    if put_others(alloc, tables, items, put_in) && tables.is_firm() {
         remove_from_tables(tables, items, from + 1, from + count, from + count + 1);
-        tables.file_len = change.file_len;
+        tables.file_len = put_in.file_len;
         return true;
     }
     tables.bounds = bounds;

@@ -47,7 +47,7 @@ const FEW_RUNS: usize = 64;
 const BYTES_FOR_A_RUN: usize = 4096;
 
 /// No more runs are read apart: each takes some 500 bytes of the stack.
-const MOST_RUNS: usize = 1024;
+const MOST_RUNS: usize = 256;
 
 /// More pieces for each run that may be read apart are not split into runs, since looking at each takes a few steps for each
 /// page of items.

@@ -105,7 +105,7 @@ impl<L: ItemList> Database<L> {
             self.tables.file_len,
             pieces,
         )?;
-        self.notes = Seq::from_vec(Vec::new(self.alloc));
+        self.notes = Seq::empty(self.alloc);
         replace_runs(
             self.alloc,
             &mut self.front,
@@ -142,7 +142,7 @@ impl<L: ItemList> Database<L> {
         )?;
         let front = new_front(self.alloc, &change)?;
         let front_len = front_len(self.front.as_slice(), &front);
-        self.notes = Seq::from_vec(Vec::new(self.alloc));
+        self.notes = Seq::empty(self.alloc);
         exchange(
             self.alloc,
             front_len,

@@ -1,7 +1,7 @@
 //! The parts of a file that an edit seeks, each with its place.
 
-ghost use Rattle.std.specs.Prelude.{◌≡◌, ◌+◌, ◌<◌, ◌^◌, ◌++◌, ◌∷◌, [], take, drop, length, slice_get, Some, OnOk, IfOk, IfSome};
-ghost use Rattle.std.specs.List.{list_any};
+ghost use Rattle.std.specs.Prelude.{◌≡◌, ◌+◌, ◌≤◌, ◌<◌, ◌^◌, false, ◌++◌, ◌∷◌, [], take, drop, length, slice_get, Some, OnOk, IfOk, IfSome};
+ghost use Rattle.std.specs.List.{list_any, between};
 ghost use Rattle.std.specs.Option.{option_map};
 ghost use Rattle.bib_spec.specs.Bytes.{name_limit};
 ghost use Rattle.bib_spec.specs.Tree.{part_bytes};
@@ -157,10 +157,31 @@ fn place_of<L: ItemList>(db: &Database<L>, n: usize, near: usize, at: usize) -> 
     if n == near { at } else { db.item_place(n) }
 }
 
+/// The number of an item, from item `n` on, to which a search can go: item `n` itself if it is `likely` to have a part that one
+/// of the two seeks, which spares a look at its bytes.
+fn next_from<L: ItemList>(
+    db: &Database<L>,
+    n: usize,
+    likely: bool,
+    sought: Sought<'_>,
+    watched: Sought<'_>,
+) -> usize
+    requires { IsItemGap db.now n }
+    ensures order { n ≤ result }
+    ensures within { IsItemGap db.now result }
+    ensures sought { OfReading db.now (λ db. have_part (test_of sought.entry) (between n result db.items) ≡ false) }
+    ensures watched { OfReading db.now (λ db. have_part (test_of watched.entry) (between n result db.items) ≡ false) }
+{
+    if likely {
+        return n;
+    }
+    db.next_with(n, sought, watched)
+}
+
 /// Adds the sought parts of item `n` and of those after it to the tokens, in their order, and says whether a part of one
-/// is watched for. It takes apart only items whose bytes have what is sought or watched for, each once. It passes over pages
-/// of items that have no such part, if the database was told to note parts. If memory is refused, some of the tokens may have
-/// been added.
+/// is watched for. It takes apart only items whose bytes have what is sought or watched for, each once, and an item behind two
+/// neighbours that have it, since it then is likely to have it too. It passes over pages of items that have no such part, if
+/// the database was told to note parts. If memory is refused, some of the tokens may have been added.
 pub fn push_from<'a, L: ItemList>(
     alloc: Global,
     tokens: &mut Vec<Token<'a>>,
@@ -178,14 +199,18 @@ pub fn push_from<'a, L: ItemList>(
     let mut k = db.next_with(n, sought, watched);
     let mut at = db.item_place(k);
     let mut met = false;
+    let mut follows = false;
     let count = db.item_count();
     'items: while k < count {
         let view = db.item(k);
+        let found = tokens.len();
         let here = push_in_fields(alloc, tokens, at, view.fields(), sought, watched)?;
         met |= here;
         let end = at + (view.body().len() + view.trail().len());
-        let next = db.next_with(k + 1, sought, watched);
+        let likely = follows && tokens.len() > found;
+        let next = next_from(db, k + 1, likely, sought, watched);
         at = place_of(db, next, k + 1, end);
+        follows = next == k + 1;
         k = next;
     }
     Ok(met)

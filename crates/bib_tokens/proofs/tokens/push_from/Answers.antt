@@ -48,13 +48,13 @@ items-preserved g c = (
   λ db reads.
       let count = c.item_count-count.ensures db reads in
       let so_far = c.items.invariant.0 db reads in
-      let next = c.next_with-next.ensures in (
+      let next = c.next_from-next.ensures in (
         next.within db reads,
-        tokens-pass (test_of c.args.sought) db c.args.n (tokens_seen c.args.tokens.now.items) (c.items.k + 1) _ (tokens_seen c.push_in_fields.new.tokens.items) c.next_with-next.result c.place_of-at.result next.order (next.sought db reads) (c.place_of-at.ensures db reads)
+        tokens-pass (test_of c.args.sought) db c.args.n (tokens_seen c.args.tokens.now.items) (c.items.k + 1) _ (tokens_seen c.push_in_fields.new.tokens.items) c.next_from-next.result c.place_of-at.result next.order (next.sought db reads) (c.place_of-at.ensures db reads)
             (tokens-next (test_of c.args.sought) c.args.db.now db c.args.n (tokens_seen c.args.tokens.now.items) c.items.k c.items.at (tokens_seen c.items.tokens.items) (tokens_seen c.push_in_fields.new.tokens.items)
             c.item-view.result c.fields.result c.body.result.now c.trail.result.now reads (omega (arith, count, c.items-test.true)) (c.item-view.ensures db reads) c.fields.ensures.fields c.body.ensures c.trail.ensures
             c.in_ok-here.ensures.tokens so_far.1),
-        met-pass (test_of c.args.watched) db.items c.args.n (c.items.k + 1) _ c.next_with-next.result next.order (next.other db reads)
+        met-pass (test_of c.args.watched) db.items c.args.n (c.items.k + 1) _ c.next_from-next.result next.order (next.watched db reads)
             (met-item (test_of c.args.watched) c.args.db.now db c.args.n c.items.k c.items.met c.in_ok-here.here c.item-view.result c.fields.result reads (omega (arith, count, c.items-test.true)) (c.item-view.ensures db reads)
             c.fields.ensures.fields c.in_ok-here.ensures.met so_far.2),
       ),

@@ -14,7 +14,7 @@ returns-clause-rec g c = λ db reads.
     let macros = macros_at months db.items it.number in
     let seen = c.entry-entry.ensures db reads at.0 it.listed in
     let kind = c.in_ok-kind_name.ensures ∙ ap folded c.type_name.ensures in
-    let key = c.from_vec-key.ensures ∙ c.in_ok-from_slice.ensures.items ∙ c.key.ensures in
+    let key = c.in_ok-key.ensures ∙ c.key.ensures in
     let own : c.gather.new.fields.fields.items ≡ fields_at entries n =
     c.in_ok-gather.ensures.added db reads ∙ ap (λ (l : List RecordField). l ++ missing l (fields_at entries n)) c.in_ok-fields.ensures.fields ∙ missing_all (fields_at entries n) in
     let fields : c.into_fields.result ≡ fields_along entries depth n =

@@ -16,7 +16,7 @@ returns-clause-rec g c = λ db reads.
     let macros = macros_at months db.items it.number in
     let seen = c.entry-entry.ensures db reads at.0 it.listed in
     let kind = c.in_ok-kind_name.ensures ∙ ap folded c.type_name.ensures in
-    let key = c.from_vec-key.ensures ∙ c.in_ok-from_slice.ensures.items ∙ c.key.ensures in
+    let key = c.in_ok-key.ensures ∙ c.key.ensures in
     let own : c.choose.new.fields.items ≡ chosen names (fields_at entries n) =
     c.in_ok-choose.ensures.chosen db reads [] c.in_ok-fields.ensures.items ∙ ap (chosen names) (missing_all (fields_at entries n)) in
     let fields : c.from_vec.result ≡ chosen names (fields_along entries depth n) =

@@ -22,7 +22,7 @@ invariant_of-self-2 g c =
     let after = after_splice c.args.pieces.now c.args.self.now front c.as_slice-2.result.now c.put_front.new.front c.front_len-front_len.result (g.L.ItemList.items c.self.inside.items)
     (g.L.ItemList.items c.exchange.new.items) c.self.inside.tables c.exchange.new.tables c.in_ok-change.change c.self.invariant.0 c.self.view_is c.as_slice-2.ensures c.in_ok-change.ensures.change
     (λ inner reads. c.put_front.ensures ∙ c.in_ok-front.ensures front inner reads) long c.in_ok-exchange.ensures.items c.in_ok-exchange.ensures.tables c.in_ok-exchange.ensures.len in
-    (after.kept, no_notes c.from_vec.result _ (c.from_vec.ensures ∙ c.new.ensures.items))
+    (after.kept, no_notes c.empty.result _ c.empty.ensures)
 
 pub returns-clause-spliced : goal.returns-clause-spliced
 returns-clause-spliced g c =
