@@ -2,11 +2,12 @@
 
 import contextlib
 import os
+import re
 import resource
 import subprocess
 
 from cases import BOOKS, CONFERENCE, FIELD, FILE, FIRST, INPUT, JOURNAL, KING, KING_ADDED, KING_RIS, LONG_ONE, PARENTS
-from cases import REGENERATED, REPORTS, ROW, SECOND, TWO, Case, doubled, imported, unimported
+from cases import REGENERATED, REPORTS, ROW, SECOND, TWO, Case, doubled, imported, journal, unimported
 from program import Left, answer_of, seen
 
 # Files that can be read, from worked examples.
@@ -80,6 +81,14 @@ DEEP = [
 # Room for one buffer of 65,536 bytes, and as much again.
 STACK = 131072
 
+# A volume, and 255 entries that refer to it from places far apart, which are read one by one when its key is renamed.
+VOLUME = b"@book{volume, title = {All of it}}\n"
+FAR_APART = VOLUME + b"".join(
+    b"@misc{part%d, crossref = {volume}}\n@misc{filler%d, note = {%s}}\n" % (n, n, b"w" * 4200) for n in range(255)
+)
+# What such a change takes at most, and as much again as it is tried with otherwise.
+STACK_FAR_APART = 262144
+
 FILE_TOO_LONG = b"bibkeep: 9 FileTooLong at 16777216\n"
 # One byte past the longest journal.
 JOURNAL_WITHOUT_LINE = b"bibkeep: 53 BadJournal at 67174487\n"
@@ -103,7 +112,8 @@ def tried(report, program):
     for text, entry, skipped in RIS_TEXTS:
         report.tried("a RIS text is cut at each byte", "import", cut_ris(program, text, entry, skipped))
     for case in DEEP:
-        report.tried("deep braces and long texts, on a small stack", case.command, on_a_small_stack(program, case))
+        report.tried("deep braces and long texts, on a small stack", case.command, on_a_small_stack(program, case, STACK))
+    report.tried("a change at places far apart, on a small stack", "edit", on_a_small_stack(program, renamed(), STACK_FAR_APART))
     for words in READERS + WITH_JOURNAL:
         report.tried("a file never ends", words[0], endless(program, words, FILE, FILE_TOO_LONG))
     for words in WITH_JOURNAL:
@@ -136,9 +146,27 @@ def cut_ris(program, text, entry, skipped):
         yield seen(program.try_case(case), {ending: answer_of(case)}, f"import of {prefix!r}")
 
 
-def on_a_small_stack(program, case):
+def renamed():
+    """The volume gets another key."""
+    places = [place.start() for place in re.finditer(b"volume", FAR_APART)]
+    step = [(place, b"volume", b"collection") for place in places]
+    new_file = FAR_APART.replace(b"volume", b"collection")
+    # the braces of a reference are replaced with it
+    step[1:] = [(place - 1, b"{volume}", b"{collection}") for place in places[1:]]
+    return Case(
+        ("edit", FILE),
+        FAR_APART,
+        input=b"rename-key\tvolume\tcollection\n",
+        reads=(FILE, INPUT),
+        output=b"applied 1\n",
+        new_file=new_file,
+        new_journal=journal(new_file, [step]),
+    )
+
+
+def on_a_small_stack(program, case, size):
     def limit():
-        resource.setrlimit(resource.RLIMIT_STACK, (STACK, STACK))
+        resource.setrlimit(resource.RLIMIT_STACK, (size, size))
 
     left = program.try_case(case, preexec_fn=limit)
     yield seen(left, {"answered": answer_of(case)}, case.name)
