@@ -32,7 +32,7 @@ ROWS = {
     "files": 9,
     "readers": 9,
     "parts": 7,
-    "values": 5,
+    "values": 6,
     "indexes": 10,
     "flat_lists": 3,
     "paged_lists": 3,
