@@ -8,7 +8,7 @@ use Rattle.bib_answers.specs.declared.answers.Answer.{Answer}
 use Rattle.bib_answers.specs.Messages.{no_such_entry_line}
 use Rattle.bib_answers.specs.Outcome.{answer_of}
 
--- how many listed entries must refer to a parent before it is listed too, by default (btxdoc 2.1)
+-- how many cited entries must refer to a parent before it is listed too, by default (btxdoc 2.1)
 abbrev pub default_min : ℕ
 default_min = 2
 

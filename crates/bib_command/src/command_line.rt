@@ -157,7 +157,7 @@ fn cite<'a>(alloc: Global) -> Result<Command<'a>, AllocError>
         "cite",
         "Lists the entries that a bibliography for these keys contains",
         "\
-A parent that at least N listed entries refer to is listed too. Unknown keys come last, each after `?`.
+A parent that at least N cited entries refer to is listed too. Unknown keys come last, each after `?`.
 
 Examples:
   bibkeep cite refs.bib knuth86 lamport86
@@ -169,7 +169,7 @@ Examples:
         alloc,
         "min-crossrefs",
         "2",
-        "How many listed entries must refer to a parent so that it is listed too, from 1 to 65535",
+        "How many cited entries must refer to a parent so that it is listed too, from 1 to 65535",
     ))
 }
 
@@ -287,7 +287,7 @@ fn undo<'a>(alloc: Global) -> Result<Command<'a>, AllocError>
         "undo",
         "Undoes the last changes, of earlier runs too",
         "\
-Undone changes can be redone until the next edit. `bibkeep log F` lists both.
+Undone changes can be redone until the next edit or import. `bibkeep log F` lists both.
 
 Examples:
   bibkeep undo refs.bib             # the last change

@@ -9,7 +9,7 @@ ghost use Rattle.bib_words.specs.Command.{IsCommand};
 use crate::Usage;
 use crate::command_line::command_line;
 use crate::usages::{no_memory, usage_of};
-use bib_scan::{Seq, Text, copied};
+use bib_text::{Seq, Text, copied};
 use bib_words::Command;
 use clap::ArgMatches;
 use std::alloc::{AllocError, Global};

@@ -4,7 +4,7 @@ ghost use Rattle.std.specs.Prelude.{◌≡◌, [], ◌⊎◌, IsTrue, ◌↔◌,
 ghost use Rattle.clap.specs.Words.{kind_of};
 ghost use Rattle.bib_command.specs.Usage.{IsUsageOf, no_memory};
 
-use bib_scan::Text;
+use bib_text::Text;
 use bib_words::status;
 use clap::error::ErrorKind;
 use std::alloc::Global;

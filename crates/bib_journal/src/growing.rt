@@ -43,24 +43,6 @@ fn composed(alloc: Global, first: &[Piece], second: &[Piece]) -> Result<Seq<Piec
     }
 }
 
-/// How the edit changes the pieces of a step.
-fn amendment(
-    alloc: Global,
-    pieces: &[Piece],
-    ends: &[u64],
-    edit: &[Piece],
-) -> Result<Amendment, AllocError>
-    requires composable { IsComposable pieces.now edit.now }
-    requires ends { AreEnds pieces.now ends.now }
-    ensures value { IfOk result (λ a. amended a pieces.now ≡ composed pieces.now edit.now) }
-    ensures within { IfOk result (AreWithin (length pieces.now)) }
-{
-    match amend(alloc, pieces, ends, edit) {
-        Ok(change) => Ok(change),
-        Err(_) => Err(AllocError),
-    }
-}
-
 /// Makes pieces that lead to a file, and changes the pieces of a step and their ends accordingly.
 fn make<L: ItemList>(
     db: &mut Database<L>,
@@ -152,7 +134,7 @@ fn grow_near<L: ItemList>(
     if let Some(spot) = spot_of(step.pieces.as_slice(), ends.as_slice(), pieces) {
         return grow_inside(alloc, db, step, ends, spot, pieces, len);
     }
-    let change = amendment(alloc, step.pieces.as_slice(), ends.as_slice(), pieces)?;
+    let change = amend(alloc, step.pieces.as_slice(), ends.as_slice(), pieces)?;
     let new = allowed_len(amended_len(len, step.pieces.as_slice(), &change))?;
     let mut list = replace(&mut step.pieces, Seq::empty(alloc)).into_vec();
     let made = make(db, &mut list, ends, change, pieces);

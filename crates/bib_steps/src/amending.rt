@@ -1,8 +1,7 @@
 //! An edit that joins a step.
 
-ghost use Rattle.std.specs.Prelude.{◌≡◌, ◌-◌, ◌≤◌, length, take, drop, IfOk, IfErr};
+ghost use Rattle.std.specs.Prelude.{◌≡◌, ◌-◌, ◌≤◌, length, take, drop, IfOk};
 ghost use Rattle.bib_spec.specs.Pieces.{Piece as FilePiece};
-ghost use Rattle.bib_items.specs.declared.fault.StoreFault.TheVariants.{Memory};
 ghost use Rattle.history_spec.specs.Composing.{IsComposable, AreEnds, composed, composed_after, replaced};
 ghost use Rattle.bib_steps.specs.Amending.{IsNear, AreWithin, amended};
 
@@ -10,9 +9,8 @@ use crate::amendment::{Amendment, Replacement};
 use crate::near::{Span, ends_before, near};
 use crate::spans::{end_before, end_of};
 use bib_data::Piece;
-use bib_items::StoreFault;
 use bib_pieces::compose_at;
-use std::alloc::Global;
+use std::alloc::{AllocError, Global};
 
 /// What a part of an edit replaces. It is near the pieces of the span.
 fn replacement(
@@ -21,7 +19,7 @@ fn replacement(
     ends: &[u64],
     span: Span,
     part: &[Piece],
-) -> Result<Replacement, StoreFault>
+) -> Result<Replacement, AllocError>
     requires composable { IsComposable pieces.now part.now }
     requires ends { AreEnds pieces.now ends.now }
     requires near { IsNear pieces.now part.now span.from span.to }
@@ -29,7 +27,6 @@ fn replacement(
     ensures to { IfOk result (λ r. r.to ≡ span.to) }
     ensures pieces { IfOk result (λ r. r.pieces ≡ composed_after (take span.from pieces.now) (take (span.to - span.from) (drop span.from pieces.now)) part.now) }
     ensures value { IfOk result (λ r. replaced r pieces.now ≡ composed pieces.now part.now) }
-    ensures only { IfErr result (λ fault. fault ≡ Memory) }
 {
     let (front, rest) = pieces.split_at(span.from);
     let (middle, _) = rest.split_at(span.to - span.from);
@@ -73,12 +70,11 @@ pub fn amend(
     pieces: &[Piece],
     ends: &[u64],
     edit: &[Piece],
-) -> Result<Amendment, StoreFault>
+) -> Result<Amendment, AllocError>
     requires composable { IsComposable pieces.now edit.now }
     requires ends { AreEnds pieces.now ends.now }
     ensures value { IfOk result (λ a. amended a pieces.now ≡ composed pieces.now edit.now) }
     ensures within { IfOk result (AreWithin (length pieces.now)) }
-    ensures only { IfErr result (λ fault. fault ≡ Memory) }
 {
     let (part, others) = edit.split_at(widest_gap(edit));
     if !part.is_empty() {

@@ -4,7 +4,7 @@ ghost use Rattle.std.specs.Prelude.{◌≡◌};
 ghost use Rattle.bib_steps.specs.Amending.{added_count};
 
 use bib_data::Piece;
-use bib_scan::Seq;
+use bib_text::Seq;
 use std::marker::Model;
 
 /// Pieces that replace those of a list from one position up to another.

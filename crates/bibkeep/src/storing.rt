@@ -5,7 +5,7 @@ ghost use Rattle.std.specs.Option.{option_map, option_copied};
 ghost use Rattle.bibkeep.specs.Ending.{AreLeft};
 
 use bib_run::Outcome;
-use bib_scan::Text;
+use bib_text::Text;
 use std::alloc::Global;
 use std::fs::{File, Permissions};
 use std::io::{ErrorKind, Write};

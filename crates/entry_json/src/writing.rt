@@ -10,7 +10,7 @@ ghost use Rattle.entry_json.specs.declared.fault.JsonFault.TheVariants.{Memory};
 
 use crate::fault::JsonFault;
 use bib_data::Record;
-use bib_scan::Text;
+use bib_text::Text;
 use json::Writer;
 use std::str;
 

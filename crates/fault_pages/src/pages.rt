@@ -14,14 +14,14 @@ pub(crate) fn faults_of_bytes(word: &[u8]) -> Option<Page>
         return Some(Page {
             number: b"1",
             name: b"Unended",
-            text: b"The file ends inside an entry, macro definition or preamble: a brace, a parenthesis or a quotation mark is never closed.\nThe offset is the file's length.\n\n  $ printf '@misc{' | bibkeep cat\n  bibkeep: 1 Unended at 6\n\nClose it. The mistake is often hundreds of lines earlier, where a closing brace is missing; `GUIDE.md` has a command that\nfinds the entry.\n",
+            text: b"The file ends inside an entry, macro definition or preamble: a brace, a parenthesis or a quotation mark is never closed.\nThe offset is the file's length.\n\n  $ printf '@misc{' | bibkeep cat\n  bibkeep: 1 Unended at 6\n\nClose it. The mistake is often hundreds of lines earlier, where a closing brace is missing; `GUIDE.md` has a command that\nfinds the entry. In an entry that was opened with `(`, a `)` directly after the key is a byte of the key: write a space\nbefore it.\n",
         });
     }
     if is_asked(word, b"2", b"ExpectedName") {
         return Some(Page {
             number: b"2",
             name: b"ExpectedName",
-            text: b"After a comma comes the name of a field, or the end of the entry.\n\n  $ printf '@misc{a,,}' | bibkeep cat\n  bibkeep: 2 ExpectedName at 8\n\nRemove the second comma, or write `name = value` there.\n",
+            text: b"A name is missing. After a comma comes the name of a field, or the end of the entry; a macro definition begins with the\nname of the macro. A name does not begin with a digit.\n\n  $ printf '@misc{a,,}' | bibkeep cat\n  bibkeep: 2 ExpectedName at 8\n\nRemove the second comma, or write `name = value` there.\n",
         });
     }
     if is_asked(word, b"3", b"ExpectedEquals") {
@@ -35,14 +35,14 @@ pub(crate) fn faults_of_bytes(word: &[u8]) -> Option<Page>
         return Some(Page {
             number: b"4",
             name: b"ExpectedCommaOrClose",
-            text: b"Something follows a complete value or key that is neither a comma nor the closing delimiter.\n\n  $ printf '@misc{a b}' | bibkeep cat\n  bibkeep: 4 ExpectedCommaOrClose at 8\n\nWrite a comma between two fields, or `#` between two parts of a value. If a comma is there, look just before it for a\nbrace that closed a text too early. In free text, an address that is followed by a parenthesis begins an entry:\n\n  $ printf 'joe@x.org (work phone)\\n' | bibkeep cat\n  bibkeep: 4 ExpectedCommaOrClose at 16\n\nThere, remove the at-sign or the parenthesis.\n",
+            text: b"Something follows a complete value or key that is neither a comma nor the closing delimiter.\n\n  $ printf '@misc{a b}' | bibkeep cat\n  bibkeep: 4 ExpectedCommaOrClose at 8\n\nWrite a comma between two fields, or `#` between two parts of a value. If a comma is there, look just before it for a\nbrace that closed a text too early. In a macro definition or preamble no comma may follow the value: remove it. In free\ntext, an address that is followed by a parenthesis begins an entry:\n\n  $ printf 'joe@x.org (work phone)\\n' | bibkeep cat\n  bibkeep: 4 ExpectedCommaOrClose at 16\n\nThere, remove the at-sign or the parenthesis.\n",
         });
     }
     if is_asked(word, b"5", b"ExpectedValue") {
         return Some(Page {
             number: b"5",
             name: b"ExpectedValue",
-            text: b"A value is missing after `=` or `#`.\n\n  $ printf '@misc{a,t=}' | bibkeep cat\n  bibkeep: 5 ExpectedValue at 10\n\nWrite `{text}`, `\"text\"`, a number or a macro's name.\n",
+            text: b"A value is missing after `=` or `#`, or in a preamble.\n\n  $ printf '@misc{a,t=}' | bibkeep cat\n  bibkeep: 5 ExpectedValue at 10\n\nWrite `{text}`, `\"text\"`, a number or a macro's name.\n",
         });
     }
     if is_asked(word, b"6", b"UnbalancedBrace") {
@@ -56,7 +56,7 @@ pub(crate) fn faults_of_bytes(word: &[u8]) -> Option<Page>
         return Some(Page {
             number: b"7",
             name: b"KeyTooLong",
-            text: b"A key or name has more than 255 bytes.\n\n  $ printf '@misc{%0256d}' 0 | bibkeep cat\n  bibkeep: 7 KeyTooLong at 261\n\nShorten it. Often the comma after the key is missing.\n",
+            text: b"A key or name has more than 255 bytes.\n\n  $ printf '@misc{%0256d}' 0 | bibkeep cat\n  bibkeep: 7 KeyTooLong at 261\n\nShorten it.\n",
         });
     }
     None
@@ -168,7 +168,7 @@ pub(crate) fn faults_of_edits(word: &[u8]) -> Option<Page>
         return Some(Page {
             number: b"33",
             name: b"BadValue",
-            text: b"A value is not written as in a file; or, for `introduce`, the braces of the text do not match.\n\n  $ printf '%s\\t%s\\t%s\\t%s\\n' set a x '{1' | bibkeep edit f.bib\n  applied 0\n  bibkeep: line 1: 33 BadValue\n\nWrite `{text}`, `\"text\"`, a number, a macro's name, or such parts with `#` between them.\n",
+            text: b"A value is not written as in a file; or, for `introduce`, the braces of the text do not match.\n\n  $ printf '%s\\t%s\\t%s\\t%s\\n' set a x '{1' | bibkeep edit f.bib\n  applied 0\n  bibkeep: line 1: 33 BadValue\n\nWrite `{text}`, `\"text\"`, a number, a macro's name, or such parts with `#` between them. White space before or after the\nvalue is refused too: look for a space at the end of the line.\n",
         });
     }
     if is_asked(word, b"34", b"BadPosition") {
@@ -217,14 +217,14 @@ pub(crate) fn faults_of_edits(word: &[u8]) -> Option<Page>
         return Some(Page {
             number: b"40",
             name: b"WouldMerge",
-            text: b"The edit would turn text into something else:\n\n- The text before a removed entry and the text after it would join, and begin an item or continue the word `comment`.\n- In an entry that was opened with `(`, the closing `)` would become a byte of the key.\n\n  $ printf 'x @book@misc{a}{b}' > merged.bib; printf '%s\\t%s\\n' remove a | bibkeep edit merged.bib\n  applied 0\n  bibkeep: line 1: 40 WouldMerge\n  $ printf '@misc(a, t = 1)' > round.bib; printf '%s\\t%s\\t%s\\n' drop a t | bibkeep edit round.bib\n  applied 0\n  bibkeep: line 1: 40 WouldMerge\n\nChange the text between the items by hand. Before a `)`, write white space:\n\n  $ printf '@misc(a, t = 1 )' > spaced.bib; printf '%s\\t%s\\t%s\\n' drop a t | bibkeep edit spaced.bib; cat spaced.bib; echo\n  applied 1\n  @misc(a )\n",
+            text: b"The edit would turn text into something else:\n\n- The text before and after an entry that you remove or move, or a definition that `inline` removes, would join, and begin\n  an item or continue the word `comment`.\n- In an entry that was opened with `(`, the closing `)` would become a byte of the key.\n\n  $ printf 'x @book@misc{a}{b}' > merged.bib; printf '%s\\t%s\\n' remove a | bibkeep edit merged.bib\n  applied 0\n  bibkeep: line 1: 40 WouldMerge\n  $ printf '@misc(a, t = 1)' > round.bib; printf '%s\\t%s\\t%s\\n' drop a t | bibkeep edit round.bib\n  applied 0\n  bibkeep: line 1: 40 WouldMerge\n\nChange the text between the items by hand. Before a `)`, write white space:\n\n  $ printf '@misc(a, t = 1 )' > spaced.bib; printf '%s\\t%s\\t%s\\n' drop a t | bibkeep edit spaced.bib; cat spaced.bib; echo\n  applied 1\n  @misc(a )\n",
         });
     }
     if is_asked(word, b"41", b"JournalFull") {
         return Some(Page {
             number: b"41",
             name: b"JournalFull",
-            text: b"The journal would have more than 65,535 steps, or more than 67,174,399 bytes of steps. An edit discards the undone steps,\nso these do not count.\n\n  $ printf '@misc{a, t = 1}\\n' > full.bib\n  $ yes \"$(printf 'set\\ta\\tt\\t2')\" | head -n 65536 > script\n  $ bibkeep edit full.bib < script\n  applied 65535\n  bibkeep: line 65536: 41 JournalFull\n\n`bibkeep forget F` starts a new journal; earlier changes can then no longer be undone. Then run the rest of the script.\nThe edits between `group LABEL` and `end` are one step.\n",
+            text: b"The journal would have more than 65,535 steps, or more than 67,174,399 bytes of steps. An edit or an import discards the\nundone steps, so these do not count.\n\n  $ printf '@misc{a, t = 1}\\n' > full.bib\n  $ yes \"$(printf 'set\\ta\\tt\\t2')\" | head -n 65536 > script\n  $ bibkeep edit full.bib < script\n  applied 65535\n  bibkeep: line 65536: 41 JournalFull\n\n`bibkeep forget F` starts a new journal; earlier changes can then no longer be undone. Then run the rest of the script.\nThe edits between `group LABEL` and `end` are one step.\n",
         });
     }
     None
@@ -245,7 +245,7 @@ pub(crate) fn faults_of_journals(word: &[u8]) -> Option<Page>
         return Some(Page {
             number: b"52",
             name: b"NothingToRedo",
-            text: b"There are fewer changes to redo than you ask for. `redo F --steps N` then redoes them all and prints how many they were.\nAn edit discards what could be redone.\n\n  $ bibkeep redo new.bib\n  redone 0\n  bibkeep: 52 NothingToRedo\n\n`bibkeep log F` lists the changes.\n",
+            text: b"There are fewer changes to redo than you ask for. `redo F --steps N` then redoes them all and prints how many they were.\nAn edit or an import discards what could be redone.\n\n  $ bibkeep redo new.bib\n  redone 0\n  bibkeep: 52 NothingToRedo\n\n`bibkeep log F` lists the changes.\n",
         });
     }
     if is_asked(word, b"53", b"BadJournal") {
@@ -259,7 +259,7 @@ pub(crate) fn faults_of_journals(word: &[u8]) -> Option<Page>
         return Some(Page {
             number: b"54",
             name: b"JournalMismatch",
-            text: b"`F.bibkeep` is a journal, but not of this file as it is now. You, your editor, `git checkout` or another program changed\nthe file since the last run of bibkeep. Or a run was interrupted after it stored the file and before it stored the\njournal. Nothing is done, because undo would change the wrong bytes.\n\n  $ printf '@misc{a, t = 1}\\n' > kept.bib\n  $ printf '%s\\t%s\\t%s\\t%s\\n' set a t 2 | bibkeep edit kept.bib\n  applied 1\n  $ printf '@misc{b}\\n' >> kept.bib\n  $ bibkeep undo kept.bib; echo status $?\n  bibkeep: 54 JournalMismatch\n  status 1\n  $ bibkeep forget kept.bib; bibkeep log kept.bib\n  $ cat kept.bib\n  @misc{a, t = 2}\n  @misc{b}\n\nTo keep your change, start a new journal by `bibkeep forget F`, or by `edit` or `import` with `--new-journal`. Undo then\nreaches back to this moment. To be able to undo the earlier changes, restore the file as the last run left it, to the last\nbyte.\n",
+            text: b"`F.bibkeep` is a journal, but not of this file as it is now. You, your editor, `git checkout` or another program changed\nthe file since the last run of bibkeep. Or a run was interrupted after it stored the file and before it stored the\njournal. Nothing is done, because undo would change the wrong bytes.\n\n  $ printf '@misc{a, t = 1}\\n' > kept.bib\n  $ printf '%s\\t%s\\t%s\\t%s\\n' set a t 2 | bibkeep edit kept.bib\n  applied 1\n  $ printf '@misc{b}\\n' >> kept.bib\n  $ bibkeep undo kept.bib; echo status $?\n  bibkeep: 54 JournalMismatch\n  status 1\n  $ bibkeep forget kept.bib; bibkeep log kept.bib\n  $ cat kept.bib\n  @misc{a, t = 2}\n  @misc{b}\n\nTo keep your change, start a new journal by `bibkeep forget F`, or by `edit` or `import` with `--new-journal`. Undo then\nreaches back to this moment. To undo the earlier changes instead, first restore the file exactly as the last run left it.\n",
         });
     }
     if is_asked(word, b"55", b"StepOpen") {
@@ -315,7 +315,7 @@ pub(crate) fn faults_of_inputs(word: &[u8]) -> Option<Page>
         return Some(Page {
             number: b"71",
             name: b"BadScript",
-            text: b"A line of the script is neither an edit nor `group` or `end`; or the words after the file are not an edit. One of these is\nthe reason:\n\n- the first word is unknown;\n- there are too few or too many words, or a field has no value;\n- a position is not 1 to 9 digits;\n- a label has more than 255 bytes or a control byte.\n\n  $ printf 'set a t 3\\n' | bibkeep edit f.bib\n  applied 0\n  bibkeep: line 1: 71 BadScript\n  $ printf 'set a t 3\\n' | cat -t\n  set a t 3\n\nMost often the words are separated by spaces and not by tabs, or `printf` changed a backslash. `cat -t` shows a tab as `^I`.\n`bibkeep help edit` lists the lines.\n",
+            text: b"A line of the script is neither an edit nor `group` or `end`; or the words after the file are not an edit. One of these is\nthe reason:\n\n- the first word is unknown;\n- there are too few or too many words, or a field has no value;\n- a position is not 1 to 9 digits;\n- the depth of `regenerate` is not one digit from 1 to 8;\n- `group` or `end` is the edit after the file;\n- a label has more than 255 bytes or a control byte.\n\n  $ printf 'set a t 3\\n' | bibkeep edit f.bib\n  applied 0\n  bibkeep: line 1: 71 BadScript\n  $ printf 'set a t 3\\n' | cat -t\n  set a t 3\n\nMost often the words are separated by spaces and not by tabs, or `printf` changed a backslash. `cat -t` shows a tab as `^I`.\n`bibkeep help edit` lists the lines.\n",
         });
     }
     None

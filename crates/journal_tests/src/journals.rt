@@ -1,7 +1,7 @@
 //! Journals as text.
 
 use bib_data::{Piece, is_label};
-use bib_scan::{Seq, Text, copied};
+use bib_text::{Seq, Text, copied};
 use journal_format::{Step, digest, read_journal, write_journal};
 use std::alloc::{AllocError, Global};
 use std::test::Fail;

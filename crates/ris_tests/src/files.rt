@@ -1,6 +1,6 @@
 //! Files read, refused and written.
 
-use bib_scan::{Seq, Text, copied};
+use bib_text::{Seq, Text, copied};
 use ris_text::{RisFault, RisLine, RisRecord, are_well_formed, read_ris, write_ris};
 use std::alloc::Global;
 use std::test::Fail;

@@ -1,7 +1,7 @@
 //! Worked examples of the mapping.
 
 use bib_data::Record;
-use bib_scan::{Seq, Text, copied};
+use bib_text::{Seq, Text, copied};
 use ris_format::{MappingFault, from_ris, in_profile, into_entry, to_entry, to_ris};
 use ris_text::{RisLine, RisRecord};
 use std::alloc::Global;
