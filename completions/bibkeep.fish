@@ -1,19 +1,78 @@
 # Completion of bibkeep for fish. Put it into ~/.config/fish/completions or PREFIX/share/fish/vendor_completions.d.
 
-# The keys of the file in the line.
-function __bibkeep_keys
+# The words before the cursor that are no options, as they are without their quotation marks: the command, the file, others.
+function __bibkeep_words
     set -l words (commandline -opc)
-    for word in $words[3..]
-        if string match -q -- '*.bib' $word
-            bibkeep cite $word '*' 2>/dev/null | cut -f 1
-            return
+    set -l has_ended no
+    set -l is_value no
+    for word in $words[2..]
+        if test $is_value = yes
+            set is_value no
+        else if test $has_ended = yes
+            printf '%s\n' $word
+        else if contains -- $word --depth --steps --min-crossrefs
+            set is_value yes
+        else if test "$word" = --
+            set has_ended yes
+        else if not string match -q -- '-*' $word
+            # only the shell knows what a tilde means
+            if string match -q -- '~/*' $word
+                set word $HOME(string sub -s 2 -- $word)
+            end
+            printf '%s\n' $word
         end
     end
 end
 
-# Whether the line has a file already.
-function __bibkeep_has_file
-    string match -q -- '*.bib' (commandline -opc)
+# Whether so many of these words are there, and the first is one of these commands.
+function __bibkeep_has
+    set -l words (__bibkeep_words)
+    test (count $words) -eq $argv[1]; and contains -- "$words[1]" $argv[2..]
+end
+
+# The same, of at least so many words.
+function __bibkeep_has_at_least
+    set -l words (__bibkeep_words)
+    test (count $words) -ge $argv[1]; and contains -- "$words[1]" $argv[2..]
+end
+
+# Whether these are the words of an edit whose verb is one of those given.
+function __bibkeep_edits
+    set -l words (__bibkeep_words)
+    test (count $words) -eq $argv[1]; and test "$words[1]" = edit; and contains -- "$words[3]" $argv[2..]
+end
+
+# What a command prints of the file in the line, whatever the name of that is.
+function __bibkeep_run
+    set -l words (__bibkeep_words)
+    command bibkeep $argv[1] -- $words[2] $argv[2..] 2>/dev/null </dev/null
+end
+
+function __bibkeep_keys
+    __bibkeep_run cite '*' | cut -f 1
+end
+
+# The fields of the entry, with those that it inherits.
+function __bibkeep_fields
+    set -l words (__bibkeep_words)
+    __bibkeep_run show $words[4] | sed -n '2,$s/ = .*//p' | grep -vx crossref
+end
+
+# What looks like the definition of a macro.
+function __bibkeep_macros
+    __bibkeep_run cat | tr '[:space:]' ' ' | LC_ALL=C grep -aioE "@string *[{(] *[^][ \"#%'(),={}]+ *=" | LC_ALL=C sed 's/ *=$//; s/.*[ {(]//'
+end
+
+function __bibkeep_faults
+    set -l faults 1:Unended 2:ExpectedName 3:ExpectedEquals 4:ExpectedCommaOrClose 5:ExpectedValue 6:UnbalancedBrace 7:KeyTooLong \
+        8:TextTooLong 9:FileTooLong 10:Memory 11:NoSuchEntry 12:BadSplice 13:NoSuchFault 21:TooManyCommas 22:UnbalancedName \
+        23:BadTemplate 24:NotUtf8 31:BadKey 32:BadName 33:BadValue 34:BadPosition 35:NotFound 36:Ambiguous 37:KeyInUse \
+        38:NameInUse 39:Referred 40:WouldMerge 41:JournalFull 51:NothingToUndo 52:NothingToRedo 53:BadJournal \
+        54:JournalMismatch 55:StepOpen 56:NoOpenStep 61:NoStart 62:NoEnd 63:EmptyType 64:UnbalancedText 71:BadScript
+    string replace : \t $faults
+    if test -n (commandline -ct)
+        string replace -r '.*:' '' $faults
+    end
 end
 
 complete -c bibkeep -f
@@ -46,6 +105,12 @@ complete -c bibkeep -n '__fish_seen_subcommand_from undo redo' -l steps -x -d 'H
 complete -c bibkeep -n '__fish_seen_subcommand_from show labels json names newkeys ris' -l depth -x -d 'From how many parents in a chain an entry inherits, from 1 to 8'
 complete -c bibkeep -n '__fish_seen_subcommand_from ris' -l dropped -d 'Lists the fields that RIS leaves out, as key, tab and field, instead of the RIS text'
 complete -c bibkeep -n '__fish_seen_subcommand_from cite' -l min-crossrefs -x -d 'How many cited entries must refer to a parent so that it is listed too, from 1 to 65535'
-complete -c bibkeep -n '__fish_seen_subcommand_from cat check lint show cite labels json names newkeys edit undo redo log forget ris import; and not __bibkeep_has_file' -k -a '(__fish_complete_suffix .bib)'
-complete -c bibkeep -n '__fish_seen_subcommand_from show cite labels json names ris; and __bibkeep_has_file' -a '(__bibkeep_keys)'
-complete -c bibkeep -n '__fish_seen_subcommand_from help' -a 'cat check lint show cite labels json names newkeys edit undo redo log forget ris import explain'
+complete -c bibkeep -n '__bibkeep_has 1 cat check lint show cite labels json names newkeys edit undo redo log forget ris import' -k -a '(__fish_complete_suffix .bib)'
+complete -c bibkeep -n '__bibkeep_has 2 show names' -a '(__bibkeep_keys)'
+complete -c bibkeep -n '__bibkeep_has_at_least 2 cite labels json ris' -a '(__bibkeep_keys)'
+complete -c bibkeep -n '__bibkeep_has 2 edit' -a 'set drop add remove move rename-key rename-macro inline introduce regenerate'
+complete -c bibkeep -n '__bibkeep_edits 3 set drop remove move rename-key' -a '(__bibkeep_keys)'
+complete -c bibkeep -n '__bibkeep_edits 3 inline rename-macro' -a '(__bibkeep_macros)'
+complete -c bibkeep -n '__bibkeep_edits 4 set drop' -a '(__bibkeep_fields)'
+complete -c bibkeep -n '__bibkeep_has 1 explain' -a '(__bibkeep_faults)'
+complete -c bibkeep -n '__bibkeep_has 1 help' -a 'cat check lint show cite labels json names newkeys edit undo redo log forget ris import explain'

@@ -122,7 +122,7 @@ def compare_bash(report, path, commands):
     text = read(path)
     words = re.search(r"local commands='(.*)'", text).group(1).split()
     report.expect_same([command.name for command in commands] + ["help"], words, path, "commands")
-    found = re.findall(r"^ +([\w| ]+)\) mapfile .*? -W '([^']*--help)'", text, re.M)
+    found = re.findall(r"^ +([\w| ]+)\) options='([^']*--help)'", text, re.M)
     arms = {name.strip(): arm for names, arm in found for name in names.split("|")}
     compare_options(report, path, commands, lambda name: options_in(arms.get(name, "")))
     if shutil.which("bash"):
@@ -134,7 +134,8 @@ def compare_answers(report, path, commands):
     for words, wanted in [(["c"], {c.name for c in commands if c.name.startswith("c")})] + [
         ([command.name, "--"], {f"--{option}" for option in command.options} | {"--help"}) for command in commands
     ]:
-        script = f"source '{path}'; COMP_WORDS=(bibkeep {' '.join(words)}); COMP_CWORD={len(words)}; _bibkeep; printf '%s\\n' \"${{COMPREPLY[@]}}\""
+        line = " ".join(["bibkeep", *words])
+        script = f"source '{path}'; COMP_LINE='{line}'; COMP_POINT={len(line)}; _bibkeep; printf '%s\\n' \"${{COMPREPLY[@]}}\""
         answer = subprocess.run(["bash", "-c", script], stdout=subprocess.PIPE, stderr=subprocess.STDOUT)
         report.expect_same(wanted, answer.stdout.decode().split(), path, " ".join(words))
 

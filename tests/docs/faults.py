@@ -1,4 +1,4 @@
-"""Whether docs/FAULTS.md has a section with a link to it, and the manual page a line, for each fault of the sources."""
+"""Whether docs/FAULTS.md has a section with a link to it, and the manual page and the completions a line, for each fault of the sources."""
 
 import os
 import re
@@ -16,6 +16,9 @@ HEADING = re.compile(r"^## (\d+) (\w+)$")
 LINK = re.compile(r"\]\(#([\w-]+)\)")
 # A line of the manual page.
 ITEM = re.compile(r"^\.It (\d+) (\w+)$", re.M)
+# A word of a completion.
+OFFERED = re.compile(r"\b(\d+):([A-Z][a-z]\w+)")
+COMPLETIONS = ("completions/bibkeep.bash", "completions/_bibkeep", "completions/bibkeep.fish")
 
 
 def compare(report, root, pages, sources):
@@ -31,9 +34,15 @@ def compare(report, root, pages, sources):
     numbers = [int(number) for number, _ in told]
     report.expect(numbers == sorted(numbers), page.path, "the faults are not in the order of their numbers")
     compare_links(report, page, told)
-    with open(os.path.join(root, "man/bibkeep.1"), encoding="utf-8") as file:
-        items = ITEM.findall(file.read())
-    report.expect_same([" ".join(fault) for fault in known], [" ".join(item) for item in items], "man/bibkeep.1", "faults")
+    compare_list(report, root, "man/bibkeep.1", ITEM, known)
+    for completion in COMPLETIONS:
+        compare_list(report, root, completion, OFFERED, told)
+
+
+def compare_list(report, root, path, form, known):
+    with open(os.path.join(root, path), encoding="utf-8") as file:
+        found = form.findall(file.read())
+    report.expect_same([" ".join(fault) for fault in known], [" ".join(fault) for fault in found], path, "faults")
 
 
 def compare_links(report, page, told):
