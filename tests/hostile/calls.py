@@ -16,7 +16,7 @@ BORNE = 100
 
 def tried(report, program):
     if not program.has_library(LIBRARY):
-        print("there is no C compiler, so the program's calls on the system do not fail")
+        print("there is no C compiler, or the program is static, so the program's calls on the system do not fail")
         return
     for case in CASES:
         for kind, trial in KINDS.items():

@@ -15,7 +15,7 @@ HELP = [("--help",), ("--version",), ("help", "edit"), ("keep",), ("show", FILE)
 
 def tried(report, program):
     if not program.has_library(LIBRARY):
-        print("there is no C compiler, so the program's requests for memory are not refused")
+        print("there is no C compiler, or the program is static, so the program's requests for memory are not refused")
         return
     for case in [*CASES, DOUBLED, *(helped(program, words) for words in HELP)]:
         report.tried("one request for memory refused", case.command, refused_in_turn(program, case, "refused"))

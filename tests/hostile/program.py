@@ -66,7 +66,9 @@ class Program:
         self.marks = os.open(os.path.join(folder, "marks"), os.O_RDWR | os.O_CREAT | os.O_APPEND)
 
     def has_library(self, name):
-        """Makes a library that is to be loaded before the C library. Returns whether there is a compiler for it."""
+        """Makes a library that is to be loaded before the C library. Returns whether the program loads it, and a compiler is there."""
+        if not loads_libraries(self.program):
+            return False
         source = os.path.join(HERE, f"{name}.c")
         for compiler in (["cc"], [os.path.join(toolchain(), "bin/clang"), "-fuse-ld=lld"]):
             if shutil.which(compiler[0]):
@@ -123,6 +125,12 @@ class Program:
         """Runs a case, with trouble."""
         self.lay_case(case)
         return self.run(case.words, case.input, library, preexec_fn, **trouble)
+
+
+def loads_libraries(program):
+    """Whether a program names what loads its libraries, which a static one does not."""
+    with open(program, "rb") as file:
+        return b"/ld-linux" in file.read(4096)
 
 
 def toolchain():

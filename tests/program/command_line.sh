@@ -44,7 +44,9 @@ when_shell_runs './keep-1.0 show f.bib'; ends_with 2; writes_nothing; complains_
 
 # It may be started without any word, not even its own name.
 given no_words.py 'import ctypes, sys\nctypes.CDLL(None).execv(sys.argv[1].encode(), (ctypes.c_char_p * 1)())\n'
-when_shell_runs 'python3 no_words.py "$program"'; ends_with 2; writes_nothing; complains_of 'Usage: bibkeep'
+if command -v python3 >/dev/null; then
+    when_shell_runs 'python3 no_words.py "$program"'; ends_with 2; writes_nothing; complains_of 'Usage: bibkeep'
+fi
 
 when_shell_runs '"$program" --help >/dev/full'; ends_with 3; says 'bibkeep: write fault'
 when_shell_runs '"$program" --version >&-'; ends_with 3; says 'bibkeep: write fault'

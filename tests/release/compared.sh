@@ -45,8 +45,10 @@ when_compared 'another toolchain'; ends_with 0; mentions 'since another toolchai
 
 # ---- this tree itself
 
-when_shell_runs 'RT=$toolchain "$root/tests/release/compare"'; ends_with 0; says_nothing
-cat seen/out
+if command -v "$toolchain" >/dev/null; then
+    when_shell_runs 'RT=$toolchain "$root/tests/release/compare"'; ends_with 0; says_nothing
+    cat seen/out
+fi
 when_shell_runs 'grep -oF "glibc $(sed -n "s/^c-library //p" "$root/release/SUMS") or newer" "$root/README.md"'; ends_with 0; says_nothing
 
 # A copy of it, as a clone has it.
