@@ -74,7 +74,7 @@ def compare_help(report, program, top, commands):
 def compare_examples(report, root, program, top, commands):
     """Each command has examples, and they run."""
     with tempfile.TemporaryDirectory() as folder:
-        shutil.copytree(os.path.join(root, "tests/docs/files"), folder, dirs_exist_ok=True)
+        lay_examples(os.path.join(root, "examples"), folder)
         for name, examples in [("", examples_of(top)), *((command.name, command.examples) for command in commands)]:
             where = f"help {name}".strip()
             report.expect(examples, where, "it has no example")
@@ -83,6 +83,13 @@ def compare_examples(report, root, program, top, commands):
                 # diff ends with 1 where it shows a change
                 wanted = 1 if re.search(r"\| diff [^|]*$", example) else 0
                 report.expect(answer.returncode == wanted, where, f"{example}\nends with {answer.returncode} and says\n{answer.stdout.decode()}")
+
+
+def lay_examples(examples, folder):
+    """The files that the help texts speak of: those of the guide, with the first record of its RIS file."""
+    shutil.copy(os.path.join(examples, "guide.bib"), os.path.join(folder, "refs.bib"))
+    with open(os.path.join(folder, "citation.ris"), "w", encoding="utf-8") as file:
+        file.write(re.match(r"(?s).*?\nER  - \n", read(os.path.join(examples, "citation.ris"))).group(0))
 
 
 # ---- the manual page

@@ -2,19 +2,33 @@
 
 import os
 import re
+import shutil
 import subprocess
 import tempfile
 
 CAT = re.compile(r"^cat ([\w.-]+)$")
+# Commands that not every machine has. A block with one that is not here is left out.
+TOOLS = re.compile(r"\b(git|jq|make|perl|python3|xargs)\b")
 
 
-def compare(report, pages, program):
+def compare(report, root, pages, program):
     for page in pages:
         with tempfile.TemporaryDirectory() as folder:
+            shutil.copytree(os.path.join(root, "examples"), os.path.join(folder, "examples"))
             for block in page.blocks:
                 if block.language == "console":
-                    for command, number, shown in commands_of(block):
-                        compare_command(report, page, program, folder, command, number, shown)
+                    commands = list(commands_of(block))
+                    if has_tools(page, block, [command for command, _, _ in commands]):
+                        for command, number, shown in commands:
+                            compare_command(report, page, program, folder, command, number, shown)
+
+
+def has_tools(page, block, commands):
+    """Whether all that the commands need is here; else it says what is left out."""
+    lacking = sorted({tool for command in commands for tool in TOOLS.findall(command) if not shutil.which(tool)})
+    if lacking:
+        print(f"{page.where(block.number)}: left out, since there is no {' and no '.join(lacking)}")
+    return not lacking
 
 
 def commands_of(block):

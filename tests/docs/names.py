@@ -17,9 +17,8 @@ PLACEHOLDER = re.compile(r"\b[A-Z]{2,}\b(?!\.md)")
 def compare(report, root, pages, sources):
     files = files_of(root)
     for page in pages:
-        if page.path == "README.md":
-            compare_readme(report, page, sources)
         if page.path == "docs/PROMISES.md":
+            compare_summary(report, page, sources)
             compare_promises(report, page, sources)
         if page.path in HISTORIES:
             continue
@@ -28,9 +27,9 @@ def compare(report, root, pages, sources):
                 compare_span(report, root, page, sources, files, span)
 
 
-def compare_readme(report, page, sources):
-    """The functions of the section on what is proved."""
-    text = dict(page.sections())["What is proved"]
+def compare_summary(report, page, sources):
+    """The functions of the section that says the promises in short."""
+    text = dict(page.sections())["In short"]
     joined = "\n".join(line.text for line in text)
     for span in spans_of(text[0].number, joined):
         if span.clauses or "::" in span.text or NAME.match(span.text):
