@@ -33,10 +33,10 @@ when_shell_runs 'find shared -name bibkeep -type f -perm 755; find shared -name 
 
 # What was put there can be taken away, and nothing else.
 when_shell_runs '"$root/install" --uninstall shared >/dev/null; ls shared'; writes_nothing; complains_of shared
-when_shell_runs 'mkdir -p other/bin && : >other/bin/mine && "$root/install" other >/dev/null && "$root/install" other >/dev/null && : >other/share/mine && "$root/install" --uninstall other >/dev/null; find other | sort'; prints 'other\nother/bin\nother/bin/mine\nother/share\nother/share/mine\n'; says_no_more
+when_shell_runs 'mkdir -p own/bin && : >own/bin/mine && "$root/install" own >/dev/null && "$root/install" own >/dev/null && : >own/share/mine && "$root/install" --uninstall own >/dev/null; find own | sort'; prints 'own\nown/bin\nown/bin/mine\nown/share\nown/share/mine\n'; says_no_more
 when_shell_runs '"$root/install" "with a  space" >/dev/null && "$root/install" --uninstall "with a  space"'; ends_with 0; mentions "removed $work/with a  space/bin/bibkeep"; says_no_more
 when_shell_runs 'ls | grep -c "with a"'; prints '0\n'
-when_shell_runs '"$root/install" --uninstall other'; ends_with 1; writes_nothing; says "install: there is no $work/other/share/doc/bibkeep/installed: bibkeep was not installed there"
+when_shell_runs '"$root/install" --uninstall own'; ends_with 1; writes_nothing; says "install: there is no $work/own/share/doc/bibkeep/installed: bibkeep was not installed there"
 when_shell_runs 'HOME=$PWD/home "$root/install" --uninstall >/dev/null; ls -A home'; ends_with 0; writes_nothing; says_nothing
 
 # The last lines say what is left to type, and no more than that.
