@@ -6,7 +6,7 @@
 _bibkeep() {
     local commands='cat check lint show cite labels json names newkeys edit undo redo log forget ris import explain help'
     local verbs='set drop add remove move rename-key rename-macro inline introduce regenerate'
-    local words=() current='' begun='' quote='' tilde='' is_target='' own=() has_ended='' options='' i
+    local IFS=$' \t\n' words=() current='' begun='' quote='' tilde='' is_target='' own=() has_ended='' options='' i
 
     COMPREPLY=()
     _bibkeep_split "${COMP_LINE:0:COMP_POINT}"
@@ -180,17 +180,18 @@ _bibkeep_names() {
     done
 }
 
-# What a command prints of a file, whatever the name of that is.
+# What a command prints of a file, whatever the name of that is. (`command` passes by what the user made an alias of.)
 _bibkeep_run() { command bibkeep "$1" -- "${@:2}" 2>/dev/null </dev/null; }
 
-_bibkeep_keys() { _bibkeep_run cite "$1" '*' | cut -f 1; }
+_bibkeep_keys() { _bibkeep_run cite "$1" '*' | command cut -f 1; }
 
 # The fields of an entry, with those that it inherits.
-_bibkeep_fields() { _bibkeep_run show "$1" "$2" | sed -n '2,$s/ = .*//p' | grep -vx crossref; }
+_bibkeep_fields() { _bibkeep_run show "$1" "$2" | command sed -n '2,$s/ = .*//p' | command grep -vx crossref; }
 
 # What looks like the definition of a macro.
 _bibkeep_macros() {
-    _bibkeep_run cat "$1" | tr '[:space:]' ' ' | LC_ALL=C grep -aioE "@string *[{(] *[^][ \"#%'(),={}]+ *=" | LC_ALL=C sed 's/ *=$//; s/.*[ {(]//'
+    _bibkeep_run cat "$1" | command tr '[:space:]' ' ' |
+        LC_ALL=C command grep -aioE "@string *[{(] *[^][ \"#%'(),={}]+ *=" | LC_ALL=C command sed 's/ *=$//; s/.*[ {(]//'
 }
 
 # The faults that `bibkeep explain` knows: their numbers, and their names once one is begun.
