@@ -25,6 +25,14 @@ when ris king.bib; ends_with 2; writes_nothing; complains_of '<KEY>'
 given dropped.bib '@article{a, title = {T}, number = 3, publisher = {P}, crossref = {p}}@misc{b, author = {x, y, z, w}, month = {spring}, url = {}}@proceedings{p, doi = {10}, annote = {n}}'
 when ris --dropped dropped.bib a b; ends_with 0; says_nothing
 when ris --dropped king.bib k1; ends_with 0; writes_nothing; says_nothing
+
+# A field that has a text, and from which no line comes: a list of names without a word, keywords of commas alone, a year with
+# a slash, a month that is none, and a list whose names cannot be taken apart.
+given wordless.bib '@misc{a, author = {~}, editor = { , }, keywords = {,, }, year = {1/2}, month = {Mayday}, title = {~}}@misc{b, author = {{}}, editor = {,}, keywords = { , x}}@misc{c, author = {A and {B} and C, D, E, F}, keywords = "", year = 1999, month = "05"}'
+when ris --dropped wordless.bib '*'; ends_with 0; says_nothing
+prints 'a\tauthor\na\teditor\na\tkeywords\na\tyear\na\tmonth\nb\teditor\nc\tauthor\nc\tmonth\n'
+when ris wordless.bib '*'; ends_with 0; says_nothing
+prints 'TY  - GEN\nTI  - ~\nID  - a\nER  - \nTY  - GEN\nAU  - {}\nKW  - x\nID  - b\nER  - \nTY  - GEN\nPY  - 1999///\nID  - c\nER  - \n'
 when ris --dropped king.bib zz; ends_with 1; writes_nothing; says 'bibkeep: 11 NoSuchEntry'
 when ris --dropped newline.bib '*'; ends_with 1; writes_nothing; says 'bibkeep: 6 UnbalancedBrace at 15'
 when ris --dropped empty.bib '*'; ends_with 0; writes_nothing; says_nothing

@@ -9,7 +9,7 @@ use Rattle.ris_format.specs.Mapping.{dropped}
 abbrev pub dropped_line : Text → Text → Text
 dropped_line key name = key ++ (codes "\t" ++ (name ++ codes "\n"))
 
--- a line for each field of a record that RIS leaves out
+-- a line for each field of a record that has a text of which RIS has no line
 abbrev pub dropped_lines : Record → Text
 dropped_lines entry = flat_map (dropped_line entry.key) (dropped entry)
 

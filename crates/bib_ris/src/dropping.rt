@@ -10,7 +10,7 @@ ghost use Rattle.bib_ris.specs.Dropped.{dropped_line, dropped_lines, entries_dro
 
 use bib_scan::{Seq, Text};
 use bib_store::{Database, ItemList, Record};
-use ris_format::{MappingFault, to_ris};
+use ris_format::{MappingFault, dropped_of};
 use std::alloc::{AllocError, Global};
 
 /// Adds a line with a key, a tab, and the name of a field.
@@ -38,7 +38,7 @@ fn add_record(alloc: Global, text: &mut Vec<u8>, rec: &Record) -> Result<(), Map
     ensures text { OnOk result (text.new.items ≡ text.old.items ++ dropped_lines rec.now) }
     ensures memory { IfErr result (λ fault. fault ≡ Memory) }
 {
-    let (_, names) = to_ris(alloc, rec)?;
+    let names = dropped_of(alloc, rec)?;
     add_names(text, rec.key.as_slice(), names.as_slice())?;
     Ok(())
 }
@@ -62,9 +62,9 @@ fn add_entry<L: ItemList>(
     add_record(alloc, text, &expanded.rec)
 }
 
-/// A line for each field that the RIS text of these entries leaves out: the key of the entry, a tab, and the name of
-/// the field. Each entry has the fields that it inherits at this depth. It takes time in the lengths of the entries,
-/// and memory for the lines. The one refusal is want of memory.
+/// A line for each field of these entries that has a text, and from which no line of their RIS text comes: the key of the
+/// entry, a tab, and the name of the field. Each entry has the fields that it inherits at this depth. It makes no RIS
+/// text. It takes time in the lengths of the entries, and memory for the lines. The one refusal is want of memory.
 pub fn entries_dropped<L: ItemList>(
     alloc: Global,
     db: &Database<L>,

@@ -17,10 +17,12 @@ pub mod PartLaws
 pub mod NameScans
 pub mod PieceSteps
 pub mod TakenApart
+pub mod WrittenNames
 pub mod OpaqueValues
 pub mod PeopleLaws
 -- ---- lines and records
 pub mod LineLaws
+pub mod LeftOut
 pub mod SectionLaws
 pub mod MappingLaw
 pub mod FitLaws

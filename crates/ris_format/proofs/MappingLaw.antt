@@ -1,5 +1,5 @@
 -- A record of the profile is the same again after both mappings, and nothing of it is dropped.
-use Rattle.ris_format.proofs.Words.{◌≡◌, Bool, true, false, cond, ◌&&◌, ◌||◌, [], ◌∷◌, ◌++◌, refl, sym, ap, ◌∙◌, ⊎_elim, append-nil, find, if◌then◌else◌, flat_map, list_any, list_all, bytes_eq, cases_Bool, cond-true, cond-false, and_from, and_parts, and_right, not-true, Text, is_new_key, field_text}
+use Rattle.ris_format.proofs.Words.{◌≡◌, Bool, true, false, cond, ◌&&◌, ◌||◌, [], ◌∷◌, ◌++◌, refl, sym, ap, subst, ◌∙◌, ⊎_elim, append-nil, find, if◌then◌else◌, flat_map, list_any, list_all, bytes_eq, cases_Bool, cond-true, cond-false, and_from, and_parts, not-true, Text, is_new_key, field_text}
 use Rattle.ris_format.proofs.Words.{Record, RecordField, eq-true, RisLine, Kind, Article, Book, Incollection, Inproceedings, Phdthesis, Techreport, Unpublished, Misc, ris_type, publisher_field, serial_field, is_article, is_entry_type, kind_of_entry, kind_of_ris, neat, has_bytes, single, Tagged}
 use Rattle.ris_format.proofs.Words.{tagged, lines_of, read_lines, values_at, value_at, written_people, read_people, has_slash, written_date, read_year, read_month, written_start, written_end, read_pages, written_keywords, read_keywords, Fields, field, text_of, booktitle_text, field_names}
 use Rattle.ris_format.proofs.Words.{written_fields, is_dropped, record_in, are_in_order, is_plain_field, neat-word}
@@ -9,14 +9,18 @@ use Rattle.bib_spec.specs.Text.{is_new_key_byte}
 use Rattle.bib_spec.proofs.NewKeyBytes.{new_key_byte-plain}
 use Rattle.ris_format.specs.Kinds.{kinds, entry_type}
 use Rattle.ris_format.specs.Lines.{or_else}
-use Rattle.ris_format.specs.Mapping.{later_names, read_journal, read_fields, is_carried}
+use Rattle.ris_format.specs.Mapping.{later_names, read_journal, read_fields}
+use Rattle.ris_format.specs.Keywords.{are_plain_keywords}
+use Rattle.ris_format.specs.Pages.{are_plain_pages}
+use Rattle.ris_format.specs.Carried.{has_keyword, is_written, is_carried}
 use Rattle.ris_format.specs.Profile.{has_form, ProfileIsKept}
 use Rattle.ris_format.proofs.Neat.{neat-field_text}
 use Rattle.ris_format.proofs.Values.{first, are_neat, single-neat, first-single}
 use Rattle.ris_format.proofs.DateLaws.{DateIsKept, date_kept, month-written}
 use Rattle.ris_format.proofs.PageLaws.{PagesAreKept, pages_kept}
 use Rattle.ris_format.proofs.KeywordLaws.{keywords-neat, keywords_kept}
-use Rattle.ris_format.proofs.PeopleLaws.{PeopleAreKept, people_kept, people_carried}
+use Rattle.ris_format.proofs.PeopleLaws.{PeopleAreKept, people_kept}
+use Rattle.ris_format.proofs.LeftOut.{dropped_by_rules, people_written, keywords_written}
 use Rattle.ris_format.proofs.LineLaws.{is_neat_group, read-lines_of, picked, values-lines_of}
 use Rattle.ris_format.proofs.OrderLaws.{are_distinct, found, is_filled_field, found-in_order, found-plain, all-named}
 
@@ -254,21 +258,35 @@ both_conds : (b : Bool) (x y u v : Bool) → (x ≡ true → u ≡ true) → (y 
 both_conds true x y u v f g h = f h
 both_conds false x y u v f g h = g h
 
-carried : (kind : Kind) (name text : Text) → has_form name text ≡ true → list_any (bytes_eq name) (field_names kind) ≡ true → is_carried kind name text ≡ true
-carried kind name text form named =
-    both_conds (bytes_eq name (codes "author") || bytes_eq name (codes "editor")) _ _ _ _
-    (λ h. ap not (people_carried text h))
+form-of_keywords : (name text : Text) (kept : Bool) → (are_plain_keywords text ≡ true → kept ≡ true)
+    → (if bytes_eq name (codes "pages") then are_plain_pages text else if bytes_eq name (codes "keywords") then are_plain_keywords text else true) ≡ true
+    → (if bytes_eq name (codes "keywords") then kept else true) ≡ true
+form-of_keywords name text kept f form =
+    ⊎_elim
+    (λ h.
+    let is : name ≡ codes "keywords" = eq-true name (codes "keywords") h in
+    cond-true (bytes_eq name (codes "keywords")) kept true h
+    ∙ f (subst (λ (n : Text). (if bytes_eq n (codes "pages") then are_plain_pages text else if bytes_eq n (codes "keywords") then are_plain_keywords text else true) ≡ true) is form))
+    (λ h. cond-false (bytes_eq name (codes "keywords")) kept true h)
+    (cases_Bool (bytes_eq name (codes "keywords")))
+
+carried : (kind : Kind) (name text : Text) → IsPlain name text → has_bytes text ≡ true → list_any (bytes_eq name) (field_names kind) ≡ true → is_carried kind name text ≡ true
+carried kind name text plain some named =
+    and_from (list_any (bytes_eq name) (field_names kind)) (is_written name text) named
+    (both_conds (bytes_eq name (codes "author") || bytes_eq name (codes "editor")) _ _ _ _
+    (λ h. people_written text some (people_kept text (λ _. (plain.neat_is, h))).is)
     (both_conds (bytes_eq name (codes "year")) _ _ _ _ (λ h. h)
-    (both_conds (bytes_eq name (codes "month")) _ _ _ _ (month-written text) (λ _. named)))
-    form
+    (both_conds (bytes_eq name (codes "month")) _ _ _ _ (month-written text)
+    (form-of_keywords name text (has_keyword text) (λ h. keywords_written text some (keywords_kept text (λ _. h))))))
+    plain.form)
 
 none-dropped : (kind : Kind) (fields : Fields) → list_all is_plain_field fields ≡ true → list_all (λ (f : RecordField). list_any (bytes_eq f.0) (field_names kind)) fields ≡ true → filter (is_dropped kind) fields ≡ []
 none-dropped kind [] plain named = refl
 none-dropped kind (f ∷ fields) plain named =
     let p = and_parts (is_plain_field f) (list_all is_plain_field fields) plain in
     let q = and_parts (list_any (bytes_eq f.0) (field_names kind)) _ named in
-    let form = (and_parts (has_bytes f.1 && bytes_eq (field_text f.1) f.1) (has_form f.0 f.1) p.0).1 in
-    let kept : is_dropped kind f ≡ false = and_right (has_bytes f.1) (not (is_carried kind f.0 f.1)) (ap not (carried kind f.0 f.1 form q.0)) in
+    let some = (and_parts (has_bytes f.1) (bytes_eq (field_text f.1) f.1) (and_parts (has_bytes f.1 && bytes_eq (field_text f.1) f.1) (has_form f.0 f.1) p.0).0).0 in
+    let kept : is_dropped kind f ≡ false = dropped_by_rules kind f some ∙ ap not (carried kind f.0 f.1 (plain-parts f.0 f.1 p.0) some q.0) in
     cond-false (is_dropped kind f) (f ∷ filter (is_dropped kind) fields) _ kept ∙ none-dropped kind fields p.1 q.1
 
 all-filled : (fields : Fields) → list_all is_plain_field fields ≡ true → list_all is_filled_field fields ≡ true

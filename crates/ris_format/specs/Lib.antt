@@ -7,6 +7,7 @@ pub mod Dates
 pub mod Pages
 pub mod Keywords
 pub mod Mapping
+pub mod Carried
 pub mod Profile
 pub mod Fitting
 pub mod Entry

@@ -1,5 +1,5 @@
 -- Lines of a RIS record by their tags, and what is found in them.
-use Rattle.std.specs.Prelude.{Bool, true, not, List, [], ◌∷◌, map, filter, slice_index_or, if◌then◌else◌}
+use Rattle.std.specs.Prelude.{Bool, true, false, not, List, [], ◌∷◌, map, filter, slice_index_or, if◌then◌else◌}
 use Rattle.std.specs.List.{flat_map, list_all, list_any}
 use Rattle.std.specs.Str.{bytes_eq}
 use Rattle.bib_spec.specs.Text.{Text}
@@ -37,6 +37,11 @@ tagged_lines group = map (line group.tag) group.values
 -- the lines of all these tags and values
 abbrev pub lines_of : List Tagged → List RisLine
 lines_of groups = flat_map tagged_lines groups
+
+-- there is a line
+abbrev pub has_lines : List RisLine → Bool
+has_lines [] = false
+has_lines (l ∷ lines) = true
 
 -- ---- reading
 

@@ -1,6 +1,5 @@
 -- Which tag carries which field of a record, both ways. (dialect)
-use Rattle.std.specs.Prelude.{Bool, not, ◌&&◌, ◌||◌, List, [], ◌∷◌, ◌++◌, codes, map, filter, find, is_some, if◌then◌else◌}
-use Rattle.std.specs.List.{list_any}
+use Rattle.std.specs.Prelude.{Bool, not, ◌&&◌, List, [], ◌∷◌, ◌++◌, codes, map, filter, find, if◌then◌else◌}
 use Rattle.std.specs.Option.{option_map_or}
 use Rattle.std.specs.Str.{bytes_eq}
 use Rattle.bib_spec.specs.Text.{Text}
@@ -9,9 +8,9 @@ use Rattle.ris_text.specs.declared.records.RisLine.{RisLine}
 use Rattle.ris_text.specs.declared.records.RisRecord.{RisRecord}
 use Rattle.ris_format.specs.declared.kinds.Kind.{Kind}
 use Rattle.ris_format.specs.Kinds.{entry_type, ris_type, publisher_field, serial_field, is_article, kind_of_entry, kind_of_ris}
-use Rattle.ris_format.specs.Lines.{has_bytes, single, Tagged, tagged, lines_of, read_lines, values_at, value_at, or_else}
-use Rattle.ris_format.specs.People.{is_refused, written_people, read_people}
-use Rattle.ris_format.specs.Dates.{has_slash, month_digits, written_date, read_year, read_month}
+use Rattle.ris_format.specs.Lines.{has_bytes, has_lines, single, Tagged, tagged, lines_of, read_lines, values_at, value_at, or_else}
+use Rattle.ris_format.specs.People.{written_people, read_people}
+use Rattle.ris_format.specs.Dates.{written_date, read_year, read_month}
 use Rattle.ris_format.specs.Pages.{written_start, written_end, read_pages}
 use Rattle.ris_format.specs.Keywords.{written_keywords, read_keywords}
 
@@ -179,17 +178,13 @@ read_fields kind lines =
 
 -- ---- from a record to RIS
 
--- a field of this name with this text can be written
-abbrev pub is_carried : Kind → Text → Text → Bool
-is_carried kind name text =
-    if bytes_eq name (codes "author") || bytes_eq name (codes "editor") then not (is_refused text)
-    else if bytes_eq name (codes "year") then not (has_slash text)
-    else if bytes_eq name (codes "month") then is_some (month_digits text)
-    else list_any (bytes_eq name) (field_names kind)
+-- the lines that come from a field: those that a record of the kind has if it has this field alone
+abbrev pub lines_from : Kind → RecordField → List RisLine
+lines_from kind f = lines_of (written_fields kind (f ∷ []))
 
--- the field has a text, and cannot be written
+-- the field has a text, and no line comes from it
 abbrev pub is_dropped : Kind → RecordField → Bool
-is_dropped kind f = has_bytes f.1 && not (is_carried kind f.0 f.1)
+is_dropped kind f = has_text f && not (has_lines (lines_from kind f))
 
 -- the names of the fields that are dropped, in the order of the record
 abbrev pub dropped : Record → List Text

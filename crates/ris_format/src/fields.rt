@@ -1,6 +1,8 @@
 //! Fields of a record by their names.
 
 ghost use Rattle.std.specs.Prelude.{◌≡◌, ◌++◌, ◌∷◌, [], OnOk, IfOk, codes, filter, map};
+ghost use Rattle.std.specs.List.{list_any};
+ghost use Rattle.std.specs.Str.{bytes_eq};
 ghost use Rattle.ris_format.specs.Mapping.{is_filled, has_text, text_of, field, later_names, field_names, ris_names};
 
 use crate::kinds::{Kind, is};
@@ -104,6 +106,38 @@ fn later_names(kind: Kind) -> [&'static [u8]; 15]
         b"note",
         b"keywords",
     ]
+}
+
+/// Whether the name is one of those from series on.
+fn is_later_name(kind: Kind, name: &[u8]) -> bool
+    ensures { result ≡ list_any (bytes_eq name.now) (later_names kind) }
+{
+    is(name, b"series")
+        || is(name, b"journal")
+        || is(name, b"year")
+        || is(name, b"month")
+        || is(name, b"volume")
+        || is(name, b"number")
+        || is(name, b"pages")
+        || is(name, kind.publisher_field())
+        || is(name, b"address")
+        || is(name, kind.serial_field())
+        || is(name, b"url")
+        || is(name, b"doi")
+        || is(name, b"abstract")
+        || is(name, b"note")
+        || is(name, b"keywords")
+}
+
+/// Whether a record of the kind can have a field of this name.
+pub(crate) fn has_field(kind: Kind, name: &[u8]) -> bool
+    ensures { result ≡ list_any (bytes_eq name.now) (field_names kind) }
+{
+    is(name, b"author")
+        || is(name, b"editor")
+        || is(name, b"title")
+        || !kind.is_article() && is(name, b"booktitle")
+        || is_later_name(kind, name)
 }
 
 /// The names of the fields that RIS records are made of, whatever their type: to make one, a caller needs no other

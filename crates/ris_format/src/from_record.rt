@@ -1,23 +1,23 @@
 //! From a record to RIS.
 
 ghost use Rattle.std.specs.Prelude.{◌≡◌, ◌++◌, ◌∷◌, [], if◌then◌else◌, true, IfOk, IfErr, OnOk, map, filter};
-ghost use Rattle.std.specs.List.{list_any, flat_map};
-ghost use Rattle.std.specs.Str.{bytes_eq};
+ghost use Rattle.std.specs.List.{flat_map};
 ghost use Rattle.ris_text.specs.Writing.{record_text, is_well_formed};
 ghost use Rattle.ris_format.specs.Kinds.{ris_type};
 ghost use Rattle.ris_format.specs.Lines.{lines_of};
-ghost use Rattle.ris_format.specs.Mapping.{booktitle_text, field_names, written_names, written_titles, written_numbers, written_publishers, written_notes, written_fields, written, ris, is_carried, is_dropped, dropped};
+ghost use Rattle.ris_format.specs.Mapping.{booktitle_text, written_names, written_titles, written_numbers, written_publishers, written_notes, written_fields, written, ris, is_dropped, dropped};
+ghost use Rattle.ris_format.specs.Carried.{is_written, is_carried};
 ghost use Rattle.ris_format.specs.declared.fault.MappingFault.TheVariants.{Memory};
 
 use crate::dates::{has_slash, month_digits, push_date};
 use crate::fault::MappingFault;
-use crate::fields::{field_names, text_of};
+use crate::fields::{has_field, text_of};
 use crate::keeping::Kept;
-use crate::keywords::push_keywords;
+use crate::keywords::{has_keyword, push_keywords};
 use crate::kinds::{Kind, is};
 use crate::lines::push_single;
 use crate::pages::{push_end, push_start};
-use crate::people::{is_refused, push_people};
+use crate::people::{are_written_people, push_people};
 use crate::text::has_bytes;
 use bib_data::Record;
 use bib_scan::{Seq, Text, copied};
@@ -146,25 +146,12 @@ fn push_record<T: Kept>(
 
 // ---- what is dropped
 
-/// Whether a record of the kind can have a field of this name.
-fn is_field_name(alloc: Global, kind: Kind, name: &[u8]) -> Result<bool, AllocError>
-    ensures { IfOk result (λ b. b ≡ list_any (bytes_eq name.now) (field_names kind)) }
-{
-    let names = field_names(alloc, kind)?;
-    for other in names.as_slice() {
-        if is(name, other) {
-            return Ok(true);
-        }
-    }
-    Ok(false)
-}
-
-/// Whether a field of this name with this text can be written.
-fn is_carried(alloc: Global, kind: Kind, name: &[u8], text: &[u8]) -> Result<bool, AllocError>
-    ensures { IfOk result (λ b. b ≡ is_carried kind name.now text.now) }
+/// Whether the rules of this name leave a line of the text, which is not empty.
+fn is_written(alloc: Global, name: &[u8], text: &[u8]) -> Result<bool, AllocError>
+    ensures { IfOk result (λ b. b ≡ is_written name.now text.now) }
 {
     if is(name, b"author") || is(name, b"editor") {
-        return Ok(!is_refused(alloc, text)?);
+        return are_written_people(alloc, text);
     }
     if is(name, b"year") {
         return Ok(!has_slash(text));
@@ -172,10 +159,23 @@ fn is_carried(alloc: Global, kind: Kind, name: &[u8], text: &[u8]) -> Result<boo
     if is(name, b"month") {
         return Ok(month_digits(text).is_some());
     }
-    is_field_name(alloc, kind, name)
+    if is(name, b"keywords") {
+        return Ok(has_keyword(text));
+    }
+    Ok(true)
 }
 
-/// Whether the field has a text, and cannot be written.
+/// Whether a line comes from a field of this name with this text, which is not empty.
+fn is_carried(alloc: Global, kind: Kind, name: &[u8], text: &[u8]) -> Result<bool, AllocError>
+    ensures { IfOk result (λ b. b ≡ is_carried kind name.now text.now) }
+{
+    if !has_field(kind, name) {
+        return Ok(false);
+    }
+    is_written(alloc, name, text)
+}
+
+/// Whether the field has a text, and no line comes from it.
 fn is_dropped(alloc: Global, kind: Kind, field: &(Text, Text)) -> Result<bool, AllocError>
     ensures { IfOk result (λ b. b ≡ is_dropped kind field.now) }
 {
@@ -201,7 +201,7 @@ fn push_dropped(
     Ok(())
 }
 
-/// The names of the fields that are dropped.
+/// The names of those of these fields that are dropped.
 fn dropped_names(
     alloc: Global,
     kind: Kind,
@@ -259,17 +259,30 @@ pub fn ris_of(alloc: Global, entry: &Record) -> Result<RisRecord, MappingFault>
     Ok(record_of(alloc, kind, entry)?)
 }
 
-/// The RIS record of a record, and the names of the fields that are dropped: fields that the table of its type does not
-/// have, lists of names that cannot be taken apart, years with a slash, and months whose text names no month. Fields
-/// with an empty text are left out and not named. If two fields have one name, the first that is not empty is written.
-/// It takes time in the record's size. The one refusal is want of memory.
+/// The names of the fields that `to_ris` drops: those that have a text, and from which no line of the RIS record comes.
+/// They are fields that the table of the record's type does not have, lists of names that cannot be taken apart or have
+/// no word, years with a slash, months whose text names no month, and keywords without a word. They come in the record's
+/// order. A field with an empty text is left out too, but says nothing, and is not named. It makes no RIS record: it takes
+/// time in the record's size, and memory for the names and for the words of one list of names. The one refusal is want of
+/// memory.
+pub fn dropped_of(alloc: Global, entry: &Record) -> Result<Seq<Text>, MappingFault>
+    ensures dropped { IfOk result (λ names. names ≡ dropped entry.now) }
+    ensures memory { IfErr result (λ fault. fault ≡ Memory) }
+{
+    let kind = Kind::of_entry(entry.kind_name.as_slice());
+    let names = dropped_names(alloc, kind, entry.fields.as_slice())?;
+    Ok(Seq::from_vec(names))
+}
+
+/// The RIS record of a record, and the names of the fields that are dropped, as `dropped_of` gives them. If two fields
+/// have one name, the first that is not empty is written. It takes time in the record's size. The one refusal is want of
+/// memory.
 pub fn to_ris(alloc: Global, entry: &Record) -> Result<(RisRecord, Seq<Text>), MappingFault>
     ensures record { IfOk result (λ r. r.0 ≡ ris entry.now) }
     ensures dropped { IfOk result (λ r. r.1 ≡ dropped entry.now) }
     ensures memory { IfErr result (λ fault. fault ≡ Memory) }
 {
-    let kind = Kind::of_entry(entry.kind_name.as_slice());
-    let record = record_of(alloc, kind, entry)?;
-    let names = dropped_names(alloc, kind, entry.fields.as_slice())?;
-    Ok((record, Seq::from_vec(names)))
+    let record = ris_of(alloc, entry)?;
+    let names = dropped_of(alloc, entry)?;
+    Ok((record, names))
 }

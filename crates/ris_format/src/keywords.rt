@@ -4,10 +4,12 @@ ghost use Rattle.std.specs.Prelude.{◌≡◌, ◌++◌, OnOk, IfOk, map, filter
 ghost use Rattle.std.specs.List.{flat_map};
 ghost use Rattle.ris_format.specs.Lines.{has_bytes, line};
 ghost use Rattle.ris_format.specs.Keywords.{is_comma_byte, keyword_pieces, written_keywords, read_keywords, are_plain_keywords};
+ghost use Rattle.ris_format.specs.Carried.{is_of_keyword, has_keyword};
 
 use crate::keeping::Kept;
 use crate::kinds::is;
 use crate::text::{has_bytes, join, piece_between};
+use bib_text::is_space;
 use std::alloc::{AllocError, Global};
 
 /// Whether keywords are cut at this byte.
@@ -51,6 +53,20 @@ fn keywords(alloc: Global, text: &[u8]) -> Result<Vec<&[u8]>, AllocError>
     ensures { IfOk result (λ words. map (λ w. w.now) words.items ≡ written_keywords text.now) }
 {
     filled(alloc, keyword_pieces(alloc, text)?.as_slice())
+}
+
+/// Whether the byte belongs to a keyword: it is no comma, and no white space.
+fn is_of_keyword(byte: u8) -> bool
+    ensures { result ≡ is_of_keyword byte }
+{
+    !is_cut(byte) && !is_space(byte)
+}
+
+/// Whether the text has a keyword. It takes no memory.
+pub(crate) fn has_keyword(text: &[u8]) -> bool
+    ensures { result ≡ has_keyword text.now }
+{
+    text.iter().any(|byte| is_of_keyword(*byte))
 }
 
 /// Adds a line for each keyword.

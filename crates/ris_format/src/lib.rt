@@ -21,7 +21,7 @@ mod to_record;
 
 pub use fault::MappingFault;
 pub use fields::ris_names;
-pub use from_record::{ris_of, to_ris, write_entry};
+pub use from_record::{dropped_of, ris_of, to_ris, write_entry};
 pub use laws::{a_record_of_the_profile_is_kept, given_records_fit};
 pub use new_entry::{into_entry, to_entry};
 pub use profile::in_profile;

@@ -1,9 +1,10 @@
 //! Names of persons, both ways.
 
-ghost use Rattle.std.specs.Prelude.{◌≡◌, ◌++◌, ◌==◌, ◌&&◌, not, OnOk, IfOk, map, option_map, length, codes, true, false};
-ghost use Rattle.std.specs.List.{slice_range, list_any, list_all, flat_map};
+ghost use Rattle.std.specs.Prelude.{◌≡◌, ◌++◌, ◌==◌, ◌&&◌, ◌||◌, not, OnOk, IfOk, map, option_map, length, codes, true, false};
+ghost use Rattle.std.specs.List.{slice_range, list_all, flat_map};
 ghost use Rattle.ris_format.specs.Lines.{line};
-ghost use Rattle.ris_format.specs.People.{word_end, to_last_end, part_text, family, person, ris_name, bib_name, is_somebody, taken_apart, is_broken, is_refused, written_person, written_name, written_names, written_people, name_pieces, person_of, lacks_and, is_opaque, read_balanced, read_name, read_people, is_plain_person, is_plain_name, are_plain_names};
+ghost use Rattle.ris_format.specs.People.{word_end, to_last_end, part_text, family, person, ris_name, bib_name, is_somebody, taken_apart, is_broken, written_person, written_name, written_names, written_people, name_pieces, person_of, lacks_and, is_opaque, read_balanced, read_name, read_people, is_plain_person, is_plain_name, are_plain_names};
+ghost use Rattle.ris_format.specs.Carried.{are_written_names, are_written_people};
 ghost use Rattle.bib_names.specs.Label.{balances, listed_names};
 
 use crate::braces::Braces;
@@ -155,33 +156,32 @@ fn listed_names(alloc: Global, list: &[u8]) -> Result<Seq<&[u8]>, AllocError>
     }
 }
 
-/// Whether the name cannot be taken apart.
-fn is_broken(alloc: Global, name: &[u8]) -> Result<bool, AllocError>
-    ensures { IfOk result (λ b. b ≡ is_broken name.now) }
+/// Whether the name has a word, or one before it has.
+fn is_somebody_yet(before: bool, person: &Person<'_>) -> bool
+    ensures { result ≡ (before || is_somebody person.now) }
 {
-    Ok(person_in(alloc, name)?.is_none())
+    before || person.is_somebody()
 }
 
-/// Whether one of the names cannot be taken apart.
-fn is_any_broken(alloc: Global, names: &[&[u8]]) -> Result<bool, AllocError>
-    ensures { IfOk result (λ b. b ≡ list_any is_broken (map (λ n. n.now) names.now)) }
+/// Whether none of these names is refused, and one has a word.
+fn are_written_names(alloc: Global, names: &[&[u8]]) -> Result<bool, AllocError>
+    ensures { IfOk result (λ b. b ≡ are_written_names (map (λ n. n.now) names.now)) }
 {
+    let mut is_somebody = false;
     for name in names {
-        if is_broken(alloc, name)? {
-            return Ok(true);
-        }
+        let Some(person) = person_in(alloc, name)? else {
+            return Ok(false);
+        };
+        is_somebody = is_somebody_yet(is_somebody, &person);
     }
-    Ok(false)
+    Ok(is_somebody)
 }
 
-/// Whether the list, or one of its names, cannot be taken apart.
-pub(crate) fn is_refused(alloc: Global, list: &[u8]) -> Result<bool, AllocError>
-    ensures { IfOk result (λ b. b ≡ is_refused list.now) }
+/// Whether a list has a name with a word, and neither the list nor a name of it is refused.
+pub(crate) fn are_written_people(alloc: Global, list: &[u8]) -> Result<bool, AllocError>
+    ensures { IfOk result (λ b. b ≡ are_written_people list.now) }
 {
-    if !balances(list) {
-        return Ok(true);
-    }
-    is_any_broken(alloc, listed_names(alloc, list)?.as_slice())
+    are_written_names(alloc, listed_names(alloc, list)?.as_slice())
 }
 
 // ---- writing

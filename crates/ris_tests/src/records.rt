@@ -2,7 +2,7 @@
 
 use bib_data::Record;
 use bib_text::{Seq, Text, copied};
-use ris_format::{MappingFault, from_ris, in_profile, into_entry, to_entry, to_ris};
+use ris_format::{MappingFault, dropped_of, from_ris, in_profile, into_entry, to_entry, to_ris};
 use ris_text::{RisLine, RisRecord};
 use std::alloc::Global;
 use std::test::Fail;
@@ -86,6 +86,15 @@ const KING_LINES: [([u8; 2], &[u8]); 8] = [
     (*b"ID", b"k1"),
 ];
 
+/// Whether these are the names, in this order.
+fn are_named(dropped: &[Text], names: &[&[u8]]) -> bool {
+    dropped.len() == names.len()
+        && dropped
+            .iter()
+            .zip(names)
+            .all(|(name, other)| name.as_slice() == *other)
+}
+
 /// Whether a record is written as these lines, and only the fields with these names are dropped.
 fn is_written(
     alloc: Global,
@@ -95,13 +104,7 @@ fn is_written(
     names: &[&[u8]],
 ) -> Result<bool, MappingFault> {
     let (written, dropped) = to_ris(alloc, record)?;
-    let dropped = dropped.as_slice();
-    let are_named = dropped.len() == names.len()
-        && dropped
-            .iter()
-            .zip(names)
-            .all(|(name, other)| name.as_slice() == *other);
-    Ok(are_named && is_ris(&written, kind, lines))
+    Ok(are_named(dropped.as_slice(), names) && is_ris(&written, kind, lines))
 }
 
 /// Whether a RIS record is read as a record of this type, with this key and these fields.
@@ -200,6 +203,26 @@ fn what_cannot_be_written_is_named(rt: HostRuntime) -> Result<(), Fail> {
     let names: [&[u8]; 4] = [b"author", b"foo", b"year", b"month"];
     let record = entry(alloc, b"foo", &fields)?;
     assert!(rt; is_written(alloc, &record, b"GEN", &lines, &names)?);
+    Ok(())
+}
+
+#[test]
+fn a_field_of_which_nothing_is_written_is_named(rt: HostRuntime) -> Result<(), Fail> {
+    let alloc = rt.alloc();
+    let fields: [(&[u8], &[u8]); 6] = [
+        (b"author", b"~"),
+        (b"editor", b","),
+        (b"keywords", b",, "),
+        (b"note", b"~"),
+        (b"booktitle", b"B"),
+        (b"url", b""),
+    ];
+    let lines: [([u8; 2], &[u8]); 2] = [(*b"N1", b"~"), (*b"ID", b"k1")];
+    let names: [&[u8]; 4] = [b"author", b"editor", b"keywords", b"booktitle"];
+    let record = entry(alloc, b"article", &fields)?;
+    assert!(rt; is_written(alloc, &record, b"JOUR", &lines, &names)?);
+    let dropped = dropped_of(alloc, &record)?;
+    assert!(rt; are_named(dropped.as_slice(), &names));
     Ok(())
 }
 
