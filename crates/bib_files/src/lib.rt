@@ -6,4 +6,4 @@ mod folder;
 mod storing;
 
 pub use folder::{Folder, Kind};
-pub use storing::{Paths};
+pub use storing::{Paths, store};
