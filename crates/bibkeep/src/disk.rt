@@ -1,6 +1,9 @@
 //! The folders of the system, as far as storing calls them. Their contracts tell nothing.
 
-ghost use Rattle.std.specs.Prelude.{◌≡◌, ◌→◌, None, Some, IfOk, IsErrAnd};
+ghost use Rattle.std.specs.Prelude.{◌≡◌, ◌≢◌, ◌↔◌, None, Some, IfOk, IsOkAnd, IsErrAnd};
+ghost use Rattle.std.specs.IoError.{error_kind};
+ghost use Rattle.std.specs.Fs.{file_type, IsFile, IsSymlink};
+ghost use Rattle.bib_files.specs.declared.folder.Kind.TheVariants as kind;
 
 use bib_files::{Folder, Kind};
 use bib_run::{Tap, write_whole};
@@ -57,7 +60,10 @@ impl Folder for Disk<'_> {
 }
 
 /// What was found, or nothing if there is nothing. Another error stays one.
-pub fn found<T: Drop>(looked: io::Result<T>) -> io::Result<Option<T>> {
+pub fn found<T: Drop>(looked: io::Result<T>) -> io::Result<Option<T>>
+    ensures some { IfOk looked.entry (λ found. IsOkAnd result (λ option. option ≡ Some found)) }
+    ensures none { IfOk result (λ option. option ≡ None → IsErrAnd looked.entry (λ error. error_kind error ≡ ErrorKind.NotFound)) }
+{
     match looked {
         Ok(found) => Ok(Some(found)),
         Err(error) if error.kind() == ErrorKind::NotFound => Ok(None),
@@ -66,7 +72,11 @@ pub fn found<T: Drop>(looked: io::Result<T>) -> io::Result<Option<T>> {
 }
 
 /// Which kind of thing was found.
-pub fn kind_of(found: &Metadata) -> Kind {
+pub fn kind_of(found: &Metadata) -> Kind
+    ensures file { (result ≡ kind.File) ↔ IsFile (file_type found.now) }
+    ensures link { (result ≡ kind.Link) ↔ IsSymlink (file_type found.now) }
+    ensures there { result ≢ kind.Nothing }
+{
     if found.is_file() {
         Kind::File
     } else if found.is_symlink() {
