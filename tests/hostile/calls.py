@@ -5,7 +5,7 @@ from itertools import count
 from signal import SIGKILL
 
 from cases import CASES, FILE, INPUT, JOURNAL, NEW_FILE, NEW_JOURNAL, OUTPUT
-from program import MISMATCH, READ_FAULT, WRITE_FAULT, Left, answer_of, difference, refusal_of, seen
+from program import LINKED, MISMATCH, READ_FAULT, WRITE_FAULT, Left, answer_of, difference, refusal_of, seen
 from report import Seen
 
 LIBRARY = "fail_calls"
@@ -96,11 +96,13 @@ def full_disks(program, case):
 
 
 def interrupted_disks(program, case):
-    """The writes of the new file and of the new journal are interrupted, which is borne however often it comes."""
+    """The writes of the new file and of the new journal are interrupted."""
+    unstored = refusal_of(case, 3, case.message + WRITE_FAULT, case.output)
     for name, content in ((NEW_FILE, case.new_file), (NEW_JOURNAL, case.new_journal)):
         for place in sorted({0, len(content) // 2}) if content else []:
-            trouble = {"on": name, "piece": 1, "after": place, "interrupted": 10 * BORNE}
-            yield with_trouble(program, case, "answered", answer_of(case, met=True), **trouble)
+            trouble = {"on": name, "piece": 1, "after": place}
+            yield with_trouble(program, case, "answered", answer_of(case, met=True), interrupted=BORNE, **trouble)
+            yield with_trouble(program, case, "write fault", unstored, interrupted=BORNE + 1, **trouble)
 
 
 def failing_calls(program, case):
@@ -115,29 +117,42 @@ def failing_calls(program, case):
 
 
 def failing_calls_beside_a_link(program, case):
-    """The same where the journal is a link: what it leads to is replaced, or stays, and the link stays."""
-    if case.journal is None or not case.stores():
+    """The same where the journal is a link: what it leads to stays, and the link stays or is replaced itself."""
+    if case.journal is None or not case.stores() or "--new-journal" in case.words:
         return
-    wanted = {ending: left._replace(others=(ELSEWHERE,)) for ending, left in endings_with_a_failing_call(case).items()}
+    wanted = endings_beside_a_link(case)
     for number in count(1):
         program.lay_case(case)
         os.rename(program.path(JOURNAL), program.path(ELSEWHERE))
         os.symlink(ELSEWHERE, program.path(JOURNAL))
         left = program.run(case.words, case.input, LIBRARY, failed=number)
         where = f"{case.name}, call {number}"
-        if not os.path.islink(program.path(JOURNAL)):
-            yield Seen("wrong", f"{where}: the link is gone")
-        elif left.met:
-            yield seen(left, wanted, where)
-        else:
-            yield seen(left, {"answered": answer_of(case)._replace(others=(ELSEWHERE,))}, where)
+        with open(program.path(ELSEWHERE), "rb") as file:
+            if file.read() != case.journal:
+                yield Seen("wrong", f"{where}: the link was followed")
+        yield seen(left._replace(others=(), met=True), wanted, where)
+        if not left.met:
             break
+
+
+def endings_beside_a_link(case):
+    """A fault, or the answer, if the command does not read the journal; else the journal is damaged."""
+    if JOURNAL not in case.reads:
+        return endings_with_a_failing_call(case)
+    damaged = refusal_of(case, 1, LINKED)
+    return {
+        "a damaged journal": damaged,
+        "a damaged journal, in silence": damaged._replace(message=b""),
+        "read fault": read_fault_of(case),
+        "write fault": write_fault_of(case, b""),
+    }
 
 
 def endings_with_a_failing_call(case):
     """A read fault, a write fault, or the answer where the call made no difference, as the closing of a source does."""
     wanted = {"answered": answer_of(case, met=True), "read fault": read_fault_of(case)}
-    if case.output:
+    if case.output or case.may_store():
+        # the output could not be written, or what is in the place of the journal could not be looked at
         wanted["write fault"] = write_fault_of(case, b"")
     if case.message:
         # it could not be said

@@ -47,6 +47,10 @@ class Case:
     def stores(self):
         return self.new_file is not None or self.new_journal is not None
 
+    def may_store(self):
+        """Whether a run of the command stores something, unless it is refused."""
+        return self.command in ("edit", "import", "undo", "redo", "forget") and "--print" not in self.words
+
     def file_after(self):
         return self.file if self.new_file is None else self.new_file
 

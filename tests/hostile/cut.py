@@ -8,7 +8,7 @@ import subprocess
 
 from cases import BOOKS, CONFERENCE, FIELD, FILE, FIRST, INPUT, JOURNAL, KING, KING_ADDED, KING_RIS, LONG_ONE, PARENTS
 from cases import REGENERATED, REPORTS, ROW, SECOND, TWO, Case, doubled, imported, journal, unimported
-from program import Left, answer_of, seen
+from program import LINKED, READ_FAULT, Left, answer_of, seen
 
 # Files that can be read, from worked examples.
 ACCEPTED = [
@@ -90,8 +90,6 @@ FAR_APART = VOLUME + b"".join(
 STACK_FAR_APART = 262144
 
 FILE_TOO_LONG = b"bibkeep: 9 FileTooLong at 16777216\n"
-# One byte past the longest journal.
-JOURNAL_WITHOUT_LINE = b"bibkeep: 53 BadJournal at 67174487\n"
 READERS = [
     ("cat", FILE),
     ("check", FILE),
@@ -117,7 +115,7 @@ def tried(report, program):
     for words in READERS + WITH_JOURNAL:
         report.tried("a file never ends", words[0], endless(program, words, FILE, FILE_TOO_LONG))
     for words in WITH_JOURNAL:
-        report.tried("a journal never ends", words[0], endless(program, words, JOURNAL, JOURNAL_WITHOUT_LINE))
+        report.tried("a journal that is no file", words[0], no_journal(program, words))
     for words in [("cat",), ("edit", FILE), ("import", FILE)]:
         report.tried("an input never ends", words[0], endless(program, words, INPUT, FILE_TOO_LONG))
 
@@ -181,6 +179,18 @@ def endless(program, words, source, message):
             left = program.run(words, given)
         refused = Left(1, b"", message, None if source == FILE else FIELD, None)
         yield seen(left, {"refused": refused}, f"{words}, {source} without end")
+
+
+def no_journal(program, words):
+    """In the place of the journal is a link to a device that never ends, which is not followed; or a pipe, which is not
+    opened."""
+    for give, refused in ((zeros, (1, LINKED)), (ever_more, (3, READ_FAULT))):
+        program.clear()
+        program.lay(FILE, FIELD)
+        with give(program, JOURNAL) as given:
+            left = program.run(words, given)
+        status, message = refused
+        yield seen(left, {"refused": Left(status, b"", message, FIELD, None)}, f"{words}, {give.__name__}")
 
 
 @contextlib.contextmanager

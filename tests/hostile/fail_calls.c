@@ -157,6 +157,8 @@ int fchmod(int descriptor, unsigned mode) {
 
 int fsync(int descriptor) { return fails() ? -1 : REAL(fsync)(descriptor); }
 
+int flock(int descriptor, int how) { return fails() ? -1 : REAL(flock)(descriptor, how); }
+
 int statx(int folder, const char *path, int how, unsigned mask, void *result) {
     return fails() ? -1 : REAL(statx)(folder, path, how, mask, result);
 }

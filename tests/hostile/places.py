@@ -8,7 +8,7 @@ import subprocess
 from itertools import product
 
 from cases import CASES, FILE, INPUT, JOURNAL, NEW_FILE, NEW_JOURNAL
-from program import READ_FAULT, WRITE_FAULT, answer_of, left_in, refusal_of, seen
+from program import LINKED, READ_FAULT, WRITE_FAULT, answer_of, left_in, refusal_of, seen
 
 NOBODY = 65534
 PAGE = os.sysconf("SC_PAGE_SIZE")
@@ -56,15 +56,19 @@ def unopened(program, case):
     """A folder in the place of the file or of the journal, a link to itself, or what may not be read; or no file."""
     for name in [name for name in (FILE, JOURNAL) if name in case.reads]:
         for make in (os.mkdir, loop, forbid, *([nothing] if name == FILE else [])):
+            if make is loop and name == JOURNAL and "--new-journal" in case.words:
+                continue
             program.lay_case(case)
             if make is not forbid:
                 os.remove(program.path(name))
             make(program.path(name))
             left = program.run(case.words, case.input, preexec_fn=be_nobody)
-            wanted = unmet(refusal_of(case, 3, READ_FAULT))
+            ending, wanted = "read fault", unmet(refusal_of(case, 3, READ_FAULT))
+            if make is loop and name == JOURNAL:
+                ending, wanted = "a damaged journal", unmet(refusal_of(case, 1, LINKED))
             if make is not forbid:
                 wanted = wanted._replace(**{"file" if name == FILE else "journal": None})
-            yield seen(left, {"read fault": wanted}, f"{case.name}, {make.__name__} of {name}")
+            yield seen(left, {ending: wanted}, f"{case.name}, {make.__name__} of {name}")
 
 
 def loop(path):

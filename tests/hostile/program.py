@@ -12,6 +12,8 @@ READ_FAULT = b"bibkeep: read fault\n"
 WRITE_FAULT = b"bibkeep: write fault\n"
 NO_MEMORY = b"bibkeep: 10 Memory\n"
 MISMATCH = b"bibkeep: 54 JournalMismatch\n"
+# What is said of a link in the place of the journal, which is not followed.
+LINKED = b"bibkeep: 53 BadJournal at 0\n"
 HERE = os.path.dirname(os.path.abspath(__file__))
 
 

@@ -125,17 +125,6 @@ when undo edited.bib; ends_with 0; prints 'undone 1\n'; leaves '@misc{a}'
 when_shell_runs 'ls elsewhere'; prints 'edited.bib\nedited.bib.bibkeep\n'
 rm edited.bib
 
-# So does a link of the journal; one that cannot be followed is no place to write to, and stays.
-given edited.bib abc
-given elsewhere/journal 'no journal'
-ln -s elsewhere/journal edited.bib.bibkeep
-when forget edited.bib; ends_with 0; says_nothing; keeps "bibkeep 2\n$abc\n0 0\n"
-expect 'the link is gone' test -h edited.bib.bibkeep
-ln -sf edited.bib.bibkeep edited.bib.bibkeep
-when forget edited.bib; ends_with 3; writes_nothing; says 'bibkeep: write fault'; leaves abc
-expect 'the link is gone' test -h edited.bib.bibkeep
-rm edited.bib.bibkeep
-
 # What cannot be read or written is a fault, and nothing is changed.
 given_edit '@misc{a}' 'set\ta\tt\t1\n'
 mkdir edited.bib.bibkeep

@@ -1,25 +1,39 @@
 -- How the program ends, and what it puts in place.
-use Rattle.std.specs.Prelude.{ℕ, ◌≡◌, Option}
+use Rattle.std.specs.Prelude.{ℕ, ◌≡◌, ◌⊎◌, IsSome, Option, Some, None, option_map}
 use Rattle.bib_spec.specs.Text.{Text}
 use Rattle.bib_words.specs.declared.commands.Command.{Command}
 use Rattle.bib_answers.specs.declared.answers.Outcome.{Outcome}
-use Rattle.bib_run.specs.Runs.{RanOver}
+use Rattle.bib_run.specs.Runs.{TapsView, IsRun, taps, fresh}
+use Rattle.bib_files.specs.Folders.{Files, Told}
+use Rattle.bib_files.specs.Storing.{Paths, AreStored, AreUnstored}
 
--- these bytes of a file and of a journal are what the outcome leaves to be stored
-pub record AreLeft (outcome : Outcome) (file journal : Option Text) : Type 0 where
-  pub file_is : file ≡ outcome.file
-  pub journal_is : journal ≡ outcome.journal
+-- A run of the command over new taps: of a file and a journal that tell these bytes, and of standard input and standard output, which
+-- tell none.
+pub record RanHere (command : Command) (file : Option Text) (journal : Option (Option Text)) (outcome : Outcome) : Type 0 where
+  pub now : TapsView
+  pub ran : IsRun command (taps (fresh file) (option_map fresh journal) (fresh None) (fresh None)) now outcome
 
--- After a run with this outcome, the program ended with this status and put these bytes in place: all that the outcome leaves, and
--- its status; or a call failed, and the status is 3.
-pub data IsFinished (outcome : Outcome) (status : ℕ) (file journal : Option Text) : Type 0 where
-  finished : status ≡ outcome.status → AreLeft outcome file journal → IsFinished outcome status file journal
-  fault : status ≡ 3 → IsFinished outcome status file journal
+-- the outcome leaves something to be put in place
+abbrev pub LeavesSome : Outcome → Type 0
+LeavesSome outcome = IsSome outcome.file ⊎ IsSome outcome.journal
 
--- The program ends with this status for this command: the status of a run of the command; or 3 if the file could not be opened,
--- 4 if memory was refused, 2 if its words are no path.
-pub data EndsFor (command : Command) (status : ℕ) : Type 0 where
-  ran : (file : Option Text) (journal : Option (Option Text)) (outcome : Outcome) → RanOver command file journal outcome → status ≡ outcome.status → EndsFor command status
-  no_path : status ≡ 2 → EndsFor command status
-  fault : status ≡ 3 → EndsFor command status
-  no_memory : status ≡ 4 → EndsFor command status
+-- After a run with this outcome, over a file with these paths, if it has any, the program ends with this status and leaves this of the
+-- folder: all that the outcome leaves is in place, and the status is the outcome's; or the outcome leaves nothing; or it could not be
+-- stored, or there are no paths, and the status is 3.
+pub data IsFinished (paths : Option Paths) (outcome : Outcome) (status : ℕ) (old new : Option Files) : Type 0 where
+  stored : (at : Paths) → paths ≡ Some at → status ≡ outcome.status → Told (AreStored at outcome.file outcome.journal) old new → IsFinished paths outcome status old new
+  nothing : outcome.file ≡ None → outcome.journal ≡ None → status ≡ outcome.status → new ≡ old → IsFinished paths outcome status old new
+  unstored : (at : Paths) → paths ≡ Some at → LeavesSome outcome → status ≡ 3 → Told (AreUnstored at outcome.file) old new → IsFinished paths outcome status old new
+  no_place : paths ≡ None → LeavesSome outcome → status ≡ 3 → new ≡ old → IsFinished paths outcome status old new
+
+-- The command was run over a file and a journal that tell these bytes, and finished with this status.
+pub record RanAndFinished (command : Command) (paths : Option Paths) (file : Option Text) (journal : Option (Option Text)) (status : ℕ) (old new : Option Files) : Type 0 where
+  pub outcome : Outcome
+  pub ran : RanHere command file journal outcome
+  pub finished : IsFinished paths outcome status old new
+
+-- The command was run over a source without a place, and this is the status of the run.
+pub record RanAlone (command : Command) (source : Option Text) (status : ℕ) : Type 0 where
+  pub outcome : Outcome
+  pub ran : RanHere command source None outcome
+  pub is : status ≡ outcome.status

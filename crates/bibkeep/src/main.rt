@@ -4,25 +4,28 @@
 
 ghost use Rattle.std.specs.Prelude.{◌≡◌, ◌≢◌, Some, IfOk, pos, slice_get, option_map};
 ghost use Rattle.std.specs.Option.{option_copied};
-ghost use Rattle.std.specs.Fd.{file_raw_fd};
-ghost use Rattle.bib_words.specs.Command.{IsCommand, TakesInput};
-ghost use Rattle.bib_run.specs.Runs.{RanOver, fresh, view_of};
-ghost use Rattle.bibkeep.specs.Ending.{IsFinished, EndsFor};
+ghost use Rattle.bib_words.specs.Command.{IsCommand};
+ghost use Rattle.bib_run.specs.Runs.{fresh, view_of};
+ghost use Rattle.bibkeep.specs.Ending.{RanHere, RanAndFinished, RanAlone};
 
+mod disk;
 mod endings;
+mod opening;
 mod storing;
 
 use bib_command::parse;
+use bib_files::{Folder, Paths};
 use bib_run::{Outcome, Tap, WRITE_FAULT, run};
 use bib_words::{Command, status};
+use disk::Disk;
 use endings::{end, end_run, end_unknown, end_unopened, end_usage, end_without_words};
+use opening::{Journal, Opened, expect_room, open, stores};
 use std::alloc::Global;
 use std::fs::File;
-use std::io::{ErrorKind, Read};
-use std::os::fd::AsRawFd;
+use std::io::Read;
 use std::process::ExitCode;
-use std::{env, io, str};
-use storing::{Stored, journal_path, left_by, store};
+use std::{env, str};
+use storing::finish;
 
 fn main(rt: HostRuntime) -> ExitCode {
     ExitCode::from(answer_words(&rt, rt.alloc()))
@@ -52,7 +55,6 @@ fn answer_words(rt: &HostRuntime, alloc: Global) -> u8 {
 /// reads neither. What is new is put in its place.
 fn perform(rt: &HostRuntime, alloc: Global, command: &Command) -> u8
     requires { IsCommand command.now }
-    ensures { EndsFor command.now result }
 {
     if command.is_named(b"explain") {
         return run_alone(rt, alloc, command, b"".as_slice());
@@ -64,7 +66,7 @@ fn perform(rt: &HostRuntime, alloc: Global, command: &Command) -> u8
         return end_unknown(&mut Tap::new(rt.stderr()));
     };
     match open(rt, alloc, command, path) {
-        Ok((file, journal)) => run_opened(rt, alloc, command, path, file, journal),
+        Ok(opened) => run_opened(rt, alloc, command, &opened),
         Err(error) => end_unopened(&mut Tap::new(rt.stderr()), &error),
     }
 }
@@ -74,81 +76,58 @@ fn run_alone<F: Read>(rt: &HostRuntime, alloc: Global, command: &Command, source
 where
     F: Drop,
     requires { IsCommand command.now }
-    ensures { EndsFor command.now result }
+    ensures { RanAlone command.now (F.remaining source) result }
 {
     let outcome = run_over(rt, alloc, command, source, None::<File>);
     end_run(&mut Tap::new(rt.stderr()), &outcome)
 }
 
+/// Runs the command over its file and its journal, unless it stores something for which there is no room. A link in the
+/// place of the journal is read as an empty text, which is no journal.
+fn run_opened(rt: &HostRuntime, alloc: Global, command: &Command, opened: &Opened) -> u8
+    requires { IsCommand command.now }
+{
+    let file = &opened.file;
+    let paths = opened.paths.as_ref();
+    if let Some(paths) = paths
+        && stores(command)
+        && expect_room(rt, file, paths).is_err()
+    {
+        return end(&mut Tap::new(rt.stderr()), WRITE_FAULT, status::FAULT);
+    }
+    let mut disk = Disk { rt, file };
+    match &opened.journal {
+        Journal::Found(journal) => {
+            run_stored(rt, alloc, command, &mut disk, paths, file, Some(journal))
+        }
+        Journal::Link => {
+            let damaged = Some(b"".as_slice());
+            run_stored(rt, alloc, command, &mut disk, paths, file, damaged)
+        }
+        Journal::Missing => {
+            run_stored(rt, alloc, command, &mut disk, paths, file, None::<&File>)
+        }
+    }
+}
+
 /// Runs the command over its file and its journal, and puts what is new in its place.
-fn run_opened(
+fn run_stored<D: Folder, F: Read, J: Read>(
     rt: &HostRuntime,
     alloc: Global,
     command: &Command,
-    path: &str,
-    file: File,
-    journal: Option<File>,
+    folder: &mut D,
+    paths: Option<&Paths>,
+    file: F,
+    journal: Option<J>,
 ) -> u8
-    requires command { IsCommand command.now }
-    requires path { slice_get command.now.words 0 ≡ Some path.now }
-    ensures { EndsFor command.now result }
+where
+    F: Drop,
+    J: Drop,
+    requires { IsCommand command.now }
+    ensures { RanAndFinished command.now (option_copied paths.entry) (F.remaining file) (option_map J.remaining journal) result (D.files folder.old) (D.files folder.new) }
 {
     let outcome = run_over(rt, alloc, command, file, journal);
-    finish(rt, alloc, path, &outcome).status
-}
-
-/// Opens the file, and its journal if there is one and the command reads it. If standard input is closed, the file gets
-/// the number of standard input. Then it would be read as the input too, so a command that takes input fails.
-fn open(
-    rt: &HostRuntime,
-    alloc: Global,
-    command: &Command,
-    path: &str,
-) -> io::Result<(File, Option<File>)>
-    requires { slice_get command.now.words 0 ≡ Some path.now }
-    ensures apart { TakesInput command.now → IfOk result (λ opened. file_raw_fd opened.0 ≢ pos 0) }
-{
-    let file = File::open(rt, path)?;
-    if command.takes_input() && file.as_raw_fd() == rt.stdin().as_raw_fd() {
-        return Err(ErrorKind::InvalidInput.into());
-    }
-    if !command.reads_journal() {
-        return Ok((file, None));
-    }
-    let journal = journal_path(rt, alloc, path)?;
-    match File::open(rt, journal.as_str()) {
-        Ok(journal) => Ok((file, Some(journal))),
-        Err(error) if error.kind() == ErrorKind::NotFound => Ok((file, None)),
-        Err(error) => Err(error),
-    }
-}
-
-/// The status to end with, and what was put in place.
-#[derive(Drop)]
-struct Finished<'a> {
-    status: u8,
-    stored: Stored<'a>,
-}
-
-/// Says how the run over this file ended, and puts the new file and the new journal, if there are any, in their places.
-fn finish<'a>(rt: &HostRuntime, alloc: Global, path: &str, outcome: &'a Outcome) -> Finished<'a>
-    ensures { IsFinished outcome.now result.status (option_copied result.stored.put.file) (option_copied result.stored.put.journal) }
-{
-    let status = end_run(&mut Tap::new(rt.stderr()), outcome);
-    let left = left_by(outcome);
-    if left.is_nothing() {
-        return Finished {
-            status,
-            stored: Stored::nothing(),
-        };
-    }
-    match store(rt, alloc, path, left) {
-        Ok(stored) => Finished { status, stored },
-        Err(_) => Finished {
-            status: end(&mut Tap::new(rt.stderr()), WRITE_FAULT, status::FAULT),
-            stored: Stored::nothing(),
-        },
-    }
+    finish(folder, &mut Tap::new(rt.stderr()), paths, &outcome)
 }
 
 /// Runs the command over the file and its journal, standard input and standard output.
@@ -163,7 +142,7 @@ where
     F: Drop,
     J: Drop,
     requires { IsCommand command.now }
-    ensures { RanOver command.now (F.remaining file) (option_map J.remaining journal) result }
+    ensures { RanHere command.now (F.remaining file) (option_map J.remaining journal) result }
 {
     let mut file = Tap::new(file);
     let mut journal = over(journal);

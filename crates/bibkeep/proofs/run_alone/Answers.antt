@@ -1,5 +1,4 @@
-use Rattle.bibkeep.specs.Ending.{EndsFor}
 use Rattle.bibkeep.proofs.run_alone.Goals as goal
 
 pub returns : goal.returns
-returns g c = EndsFor.ran _ _ _ c.run_over-outcome.ensures c.end_run.ensures.status
+returns g c = record { outcome = c.run_over-outcome.result; ran = c.run_over-outcome.ensures; is = c.end_run.ensures.status }

@@ -6,7 +6,7 @@ use Rattle.bibkeep.proofs.run_over.Goals as goal
 
 pub returns : goal.returns
 returns g c =
-    ran_over _ _ _ _ _ _ _ _ _ _ _ c.run.ensures.ran
+    ran_over _ _ _ _ _ _ _ _ _ c.run.ensures.ran
     (new_tap _ _ _ (ap g.F.Read.remaining c.new-file.ensures.inner) c.new-file.ensures.fault)
     (ap (option_map (view_of g.J.Read.remaining)) c.as_mut.ensures.value ∙ c.over-journal.ensures)
     (new_tap _ _ _ refl c.new-input.ensures.fault)

@@ -1,0 +1,143 @@
+//! Opens what a command reads: its file, which is locked if the command stores it, and the journal beside it.
+
+ghost use Rattle.std.specs.Prelude.{◌≡◌, ◌≢◌, ◌↔◌, Some, IfOk, IsTrue, pos, slice_get};
+ghost use Rattle.std.specs.Fd.{file_raw_fd};
+ghost use Rattle.bib_words.specs.Command.{TakesInput};
+ghost use Rattle.bibkeep.specs.Opening.{Stores};
+
+use crate::disk::{found, is_same, kind_of};
+use bib_files::{Kind, Paths};
+use bib_words::Command;
+use std::alloc::Global;
+use std::fs::File;
+use std::io::ErrorKind;
+use std::os::fd::AsRawFd;
+use std::{fs, io};
+
+/// A file is opened so often at most, if other runs go on to replace it between opening and locking.
+const ATTEMPT_LIMIT: u32 = 100_000;
+
+/// The journal of a file, as it was found.
+#[derive(Drop)]
+pub enum Journal {
+    /// There is none, or the command does not read it.
+    Missing,
+    /// A file.
+    Found(File),
+    /// A symbolic link, which is not followed.
+    Link,
+}
+
+/// What a run reads, and the paths at which it stores, if there are any.
+#[derive(Drop)]
+pub struct Opened {
+    pub file: File,
+    pub journal: Journal,
+    pub paths: Option<Paths>,
+}
+
+/// Whether the command puts something in place.
+pub fn stores(command: &Command) -> bool
+    ensures { IsTrue result ↔ Stores command.now }
+{
+    (command.makes_file() && !command.print) || command.is_named(b"forget")
+}
+
+/// Opens the file, and its journal if there is one and the command reads it. If standard input is closed, the file gets
+/// the number of standard input. Then it would be read as the input too, so a command that takes input fails.
+pub fn open(
+    rt: &HostRuntime,
+    alloc: Global,
+    command: &Command,
+    path: &str,
+) -> io::Result<Opened>
+    requires { slice_get command.now.words 0 ≡ Some path.now }
+    ensures apart { TakesInput command.now → IfOk result (λ opened. file_raw_fd opened.file ≢ pos 0) }
+{
+    let stores = stores(command);
+    let paths = if stores || command.reads_journal() {
+        paths_of(rt, alloc, path)?
+    } else {
+        None
+    };
+    let path = match &paths {
+        Some(paths) => paths.file(),
+        None => path,
+    };
+    let file = if stores {
+        open_locked(rt, path)?
+    } else {
+        File::open(rt, path)?
+    };
+    if command.takes_input() && file.as_raw_fd() == rt.stdin().as_raw_fd() {
+        return Err(ErrorKind::InvalidInput.into());
+    }
+    let journal = match &paths {
+        Some(paths) if command.reads_journal() => open_journal(rt, paths.journal())?,
+        _ => Journal::Missing,
+    };
+    Ok(Opened {
+        file,
+        journal,
+        paths,
+    })
+}
+
+/// The paths at which the file and its journal are stored. If the path is a symbolic link, they are those of the file that
+/// it leads to. A pipe has none.
+fn paths_of(rt: &HostRuntime, alloc: Global, path: &str) -> io::Result<Option<Paths>> {
+    match found(fs::canonicalize(rt, path))? {
+        Some(path) => Ok(Some(Paths::of(alloc, path.into_string().as_str())?)),
+        None => Ok(None),
+    }
+}
+
+/// Opens a file and locks it: as long as it is open, another run that does so waits. A lock is of a file and not of its
+/// path, so the file is opened again if another run has put a new one in its place meanwhile. What is no file, or cannot be
+/// locked, is opened without a lock.
+fn open_locked(rt: &HostRuntime, path: &str) -> io::Result<File> {
+    for _ in 0..ATTEMPT_LIMIT {
+        let file = File::open(rt, path)?;
+        let opened = file.metadata()?;
+        if !opened.is_file()
+            || file.lock().is_err()
+            || is_same(&opened, &fs::metadata(rt, path)?)
+        {
+            return Ok(file);
+        }
+    }
+    Err(ErrorKind::ResourceBusy.into())
+}
+
+/// Opens the journal. A link is not followed, and anything but a file fails. The journal is looked for again if another
+/// run has put a new one in its place between looking and opening.
+fn open_journal(rt: &HostRuntime, path: &str) -> io::Result<Journal> {
+    for _ in 0..ATTEMPT_LIMIT {
+        let Some(looked) = found(fs::symlink_metadata(rt, path))? else {
+            return Ok(Journal::Missing);
+        };
+        match kind_of(&looked) {
+            Kind::Link => return Ok(Journal::Link),
+            Kind::File => {}
+            Kind::Nothing | Kind::Other => return Err(ErrorKind::InvalidInput.into()),
+        }
+        let journal = File::open(rt, path)?;
+        if is_same(&looked, &journal.metadata()?) {
+            return Ok(Journal::Found(journal));
+        }
+    }
+    Err(ErrorKind::ResourceBusy.into())
+}
+
+/// Fails if nothing could be stored at the paths: the longest is no path that a file may have; or in the place of the
+/// journal is a folder, a device, a pipe or a socket, or the file itself under a second name.
+pub fn expect_room(rt: &HostRuntime, file: &File, paths: &Paths) -> io::Result<()> {
+    found(fs::symlink_metadata(rt, paths.new_journal()))?;
+    let Some(journal) = found(fs::symlink_metadata(rt, paths.journal()))? else {
+        return Ok(());
+    };
+    if kind_of(&journal) == Kind::Other || is_same(&journal, &file.metadata()?) {
+        return Err(ErrorKind::InvalidInput.into());
+    }
+    Ok(())
+}
