@@ -59,8 +59,14 @@ fn hint_other(lines: &mut Lines, edit: &Edit<'_>, fault: usize) -> Result<(), Al
                 &parts,
             )
         }
-        55 => lines.say(b"a step is open: write a line `end` before this `group`", &[]),
-        56 => lines.say(b"no step is open: write a line `group LABEL` before its edits", &[]),
+        55 => lines.say(
+            b"a step is open: write a line `end` before this `group`",
+            &[],
+        ),
+        56 => lines.say(
+            b"no step is open: write a line `group LABEL` before its edits",
+            &[],
+        ),
         71 => hint_form(lines, edit.word(0)),
         _ => Ok(()),
     }
@@ -168,10 +174,7 @@ fn hint_bad_value(lines: &mut Lines, value: &[u8]) -> Result<(), AllocError> {
 fn hint_position(lines: &mut Lines, edit: &Edit<'_>) -> Result<(), AllocError> {
     let count = items_of(lines.alloc(), edit.file)?.len();
     if edit.is_named(b"move") {
-        let parts = [
-            Part::Name(edit.name),
-            Part::Count(count.saturating_sub(1)),
-        ];
+        let parts = [Part::Name(edit.name), Part::Count(count.saturating_sub(1))];
         return lines.say(
             b"% has % other items, counted from 0; that number moves the entry to the end",
             &parts,
@@ -192,7 +195,10 @@ fn is_about_macro(edit: &Edit<'_>) -> bool {
 fn hint_missing(lines: &mut Lines, edit: &Edit<'_>) -> Result<(), AllocError> {
     if edit.is_named(b"introduce") {
         let parts = [Part::Name(edit.word(2))];
-        return lines.say(b"no value has the whole part {%}, nor the same in quotes", &parts);
+        return lines.say(
+            b"no value has the whole part {%}, nor the same in quotes",
+            &parts,
+        );
     }
     if is_about_macro(edit) {
         return hint_missing_macro(lines, edit);
@@ -231,7 +237,12 @@ fn hint_ambiguous(lines: &mut Lines, edit: &Edit<'_>) -> Result<(), AllocError> 
     let items = items_of(alloc, edit.file)?;
     if is_about_macro(edit) {
         let found = definitions(alloc, items.as_slice(), edit.word(1))?;
-        return hint_twice(lines, edit, found.as_slice(), b"the macro % is defined % times: lines % and %");
+        return hint_twice(
+            lines,
+            edit,
+            found.as_slice(),
+            b"the macro % is defined % times: lines % and %",
+        );
     }
     if edit.is_named(b"add") {
         return lines.say(b"the new entry has a field twice", &[]);
@@ -239,7 +250,12 @@ fn hint_ambiguous(lines: &mut Lines, edit: &Edit<'_>) -> Result<(), AllocError> 
     let found = holders(alloc, items.as_slice(), edit.word(1))?;
     match found.as_slice() {
         [only] => hint_field_twice(lines, edit, only),
-        many => hint_twice(lines, edit, many, b"the key % is that of % entries: lines % and %"),
+        many => hint_twice(
+            lines,
+            edit,
+            many,
+            b"the key % is that of % entries: lines % and %",
+        ),
     }
 }
 
@@ -271,11 +287,7 @@ fn hint_by_hand(lines: &mut Lines, edit: &Edit<'_>) -> Result<(), AllocError> {
     )
 }
 
-fn hint_field_twice(
-    lines: &mut Lines,
-    edit: &Edit<'_>,
-    item: &Item<'_>,
-) -> Result<(), AllocError> {
+fn hint_field_twice(lines: &mut Lines, edit: &Edit<'_>, item: &Item<'_>) -> Result<(), AllocError> {
     let mut first = None;
     'fields: for field in ItemView::of(item.body, b"").fields() {
         if same_folded(field.name, edit.word(2)) {
@@ -317,7 +329,10 @@ fn hint_key_in_use(lines: &mut Lines, edit: &Edit<'_>) -> Result<(), AllocError>
                 Part::Count(line_of(edit.file, item.start)),
                 Part::Name(key),
             ];
-            lines.say(b"the crossref of % in line % names %, which no entry has", &parts)?;
+            lines.say(
+                b"the crossref of % in line % names %, which no entry has",
+                &parts,
+            )?;
             return lines.say(b"the renamed entry would become its parent", &[]);
         }
     }
@@ -359,7 +374,10 @@ fn hint_name_in_use(lines: &mut Lines, edit: &Edit<'_>) -> Result<(), AllocError
     if is_month(name) {
         return lines.say(b"% is the name of a month", &parts);
     }
-    lines.say(b"a value uses the name % already, and nothing defines it", &parts)
+    lines.say(
+        b"a value uses the name % already, and nothing defines it",
+        &parts,
+    )
 }
 
 fn hint_referred(lines: &mut Lines, edit: &Edit<'_>) -> Result<(), AllocError> {
@@ -386,13 +404,22 @@ fn hint_referred(lines: &mut Lines, edit: &Edit<'_>) -> Result<(), AllocError> {
         lines.say(b"and % more", &parts)?;
     }
     let parts = [Part::Typed(edit.name, b"F"), Part::Typed(last, b"KEY")];
-    lines.say(b"first type, for each of them: bibkeep edit % drop % crossref", &parts)
+    lines.say(
+        b"first type, for each of them: bibkeep edit % drop % crossref",
+        &parts,
+    )
 }
 
 fn hint_merge(lines: &mut Lines, edit: &Edit<'_>) -> Result<(), AllocError> {
     if edit.is_named(b"drop") {
-        return lines.say(b"then a `)` would become a part of the key: write a space before it", &[]);
+        return lines.say(
+            b"then a `)` would become a part of the key: write a space before it",
+            &[],
+        );
     }
     let parts = [Part::Name(edit.word(1))];
-    lines.say(b"without the entry %, the text before and after it would be read as an item", &parts)
+    lines.say(
+        b"without the entry %, the text before and after it would be read as an item",
+        &parts,
+    )
 }

@@ -15,7 +15,10 @@ use std::io::ErrorKind;
 pub fn hint_fault(lines: &mut Lines, asked: &Asked<'_>, said: Said) -> Result<(), AllocError> {
     match (said.fault, said.place) {
         (1..=8, Some(place)) => hint_place(lines, asked, place),
-        (9, _) => lines.say(b"a file, a script or a RIS text has at most 16777216 bytes", &[]),
+        (9, _) => lines.say(
+            b"a file, a script or a RIS text has at most 16777216 bytes",
+            &[],
+        ),
         (51 | 52, _) => {
             let parts = [Part::Typed(asked.name(), b"F")];
             lines.say(b"bibkeep log % lists the changes", &parts)
@@ -27,7 +30,10 @@ pub fn hint_fault(lines: &mut Lines, asked: &Asked<'_>, said: Said) -> Result<()
         }
         (54, _) => {
             let parts = [Part::Name(asked.name())];
-            lines.say(b"% was changed by an editor or another program since bibkeep stored it", &parts)?;
+            lines.say(
+                b"% was changed by an editor or another program since bibkeep stored it",
+                &parts,
+            )?;
             hint_forget(lines, asked)
         }
         _ => hint_question(lines, asked, said.fault),
@@ -100,7 +106,7 @@ pub fn hint_trouble(
     if trouble.kind != ErrorKind::NotFound {
         return Ok(());
     }
-    if trouble.on == b"-" {
+    if trouble.on == b"-".as_slice() {
         return lines.say(
             b"here - is the name of a file; /dev/stdin names standard input",
             &[],
@@ -108,9 +114,22 @@ pub fn hint_trouble(
     }
     if is_verb(trouble.on) && command.is_named(b"edit") {
         let parts = [Part::Name(trouble.on)];
-        return lines.say(b"the file comes before the edit: bibkeep edit F % ..", &parts);
+        return lines.say(
+            b"the file comes before the edit: bibkeep edit F % ..",
+            &parts,
+        );
     }
     Ok(())
+}
+
+/// The hints about a file that could not be stored.
+pub fn hint_storing(lines: &mut Lines, trouble: Trouble<'_>) -> Result<(), AllocError> {
+    let parts = [Part::Name(trouble.on), Part::Name(reason_of(trouble.kind))];
+    lines.say(b"% was not stored: %", &parts)?;
+    lines.say(
+        b"a file is stored beside the old one, and then takes its name: its folder must be writable",
+        &[],
+    )
 }
 
 /// The system's reason in words.

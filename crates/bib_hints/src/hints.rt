@@ -5,7 +5,7 @@ ghost use Rattle.bib_hints.specs.Hints.{AreHints};
 
 use crate::asked::{Asked, Ended, Trouble};
 use crate::edits::{Edit, hint_edit};
-use crate::faults::{hint_fault, hint_trouble};
+use crate::faults::{hint_fault, hint_storing, hint_trouble};
 use crate::inputs::{hint_import, hint_script};
 use crate::keys::hint_unknown_keys;
 use crate::lines::Lines;
@@ -44,6 +44,15 @@ pub fn hints_of_trouble(
 {
     let mut lines = Lines::new(alloc);
     hint_trouble(&mut lines, command, trouble)?;
+    lines.laid_out()
+}
+
+/// The hints about a file or a journal that could not be stored.
+pub fn hints_of_storing(alloc: Global, trouble: Trouble<'_>) -> Result<Text, AllocError>
+    ensures { IfOk result AreHints }
+{
+    let mut lines = Lines::new(alloc);
+    hint_storing(&mut lines, trouble)?;
     lines.laid_out()
 }
 
@@ -146,10 +155,7 @@ fn hint_words(
     hint_edit(lines, &edit, said.fault)
 }
 
-fn words_after_file<'a>(
-    alloc: Global,
-    asked: &Asked<'a>,
-) -> Result<Vec<&'a [u8]>, AllocError> {
+fn words_after_file<'a>(alloc: Global, asked: &Asked<'a>) -> Result<Vec<&'a [u8]>, AllocError> {
     let mut words = Vec::new(alloc);
     let mut is_file = true;
     'words: for word in asked.command.words.as_slice() {

@@ -19,7 +19,10 @@ pub fn hint_script(lines: &mut Lines, asked: &Asked<'_>, line: &[u8]) -> Result<
     lines.say(b"the line: %", &parts)?;
     if trimmed(asked.input).first() == Some(&b'@') {
         lines.say(b"this looks like BibTeX", &[])?;
-        return lines.say(b"a script has one edit on each line, its words separated by tabs", &[]);
+        return lines.say(
+            b"a script has one edit on each line, its words separated by tabs",
+            &[],
+        );
     }
     if is_ris(asked.input) {
         let typed = [Part::Typed(asked.name(), b"F")];
@@ -53,7 +56,10 @@ pub fn hint_import(lines: &mut Lines, asked: &Asked<'_>, said: Said) -> Result<(
         (62, Some(place)) => hint_unended(lines, asked.input, place),
         (63, Some(place)) => {
             let parts = [Part::Count(line_of(asked.input, place))];
-            lines.say(b"line % of the input has no type; write one: TY  - JOUR", &parts)
+            lines.say(
+                b"line % of the input has no type; write one: TY  - JOUR",
+                &parts,
+            )
         }
         (64, _) => hint_unbalanced(lines, asked.input),
         (37, _) => hint_id(lines, asked),
@@ -90,7 +96,10 @@ fn hint_unended(lines: &mut Lines, input: &[u8], place: usize) -> Result<(), All
         Part::Count(line_of(input, place)),
         Part::Name(title),
     ];
-    lines.say(b"the record that begins in line % of the input has no line ER before line %  %", &parts)?;
+    lines.say(
+        b"the record that begins in line % of the input has no line ER before line %  %",
+        &parts,
+    )?;
     lines.say(b"write before that line: ER  - ", &[])
 }
 
@@ -132,7 +141,10 @@ fn hint_id(lines: &mut Lines, asked: &Asked<'_>) -> Result<(), AllocError> {
                     Part::Count(line_of(asked.file, item.start)),
                     Part::Name(asked.name()),
                 ];
-                lines.say(b"line % of the input has the ID %, which is the key in line % of %", &parts)?;
+                lines.say(
+                    b"line % of the input has the ID %, which is the key in line % of %",
+                    &parts,
+                )?;
                 return hint_other_id(lines);
             }
             if let Some(first) = line_with_id(asked.input, number, id) {

@@ -19,4 +19,4 @@ mod usages;
 mod verbs;
 
 pub use asked::{Asked, Ended, Trouble};
-pub use hints::{hints, hints_of_trouble, hints_of_usage, invitation};
+pub use hints::{hints, hints_of_storing, hints_of_trouble, hints_of_usage, invitation};

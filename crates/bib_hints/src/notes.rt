@@ -22,7 +22,7 @@ pub fn note(lines: &mut Lines, asked: &Asked<'_>, present: &[u8]) -> Result<(), 
         return Ok(());
     }
     match asked.command.words.as_slice() {
-        [_, verb, key, field, value] if verb.as_slice() == b"set" => note_set(
+        [_, verb, key, field, value] if verb.as_slice() == b"set".as_slice() => note_set(
             lines,
             asked,
             present,
@@ -102,14 +102,20 @@ fn note_set(
         return Ok(());
     }
     let parts = [Part::Name(value), Part::Name(field)];
-    lines.say(b"% is a macro that is not defined: the field % is empty now", &parts)?;
+    lines.say(
+        b"% is a macro that is not defined: the field % is empty now",
+        &parts,
+    )?;
     let typed = [
         Part::Typed(asked.name(), b"F"),
         Part::Typed(key, b"KEY"),
         Part::Typed(field, b"FIELD"),
         Part::Name(value),
     ];
-    lines.say(b"a text is written in braces: bibkeep edit % set % % '{%}'", &typed)
+    lines.say(
+        b"a text is written in braces: bibkeep edit % set % % '{%}'",
+        &typed,
+    )
 }
 
 /// Whether one of the items comes before this one.

@@ -29,13 +29,13 @@ pub fn said_in(message: &[u8]) -> Said {
 
 /// What is said with one more number, which comes after this word.
 fn with_number(said: Said, last: &[u8], number: usize) -> Said {
-    if last == b"line" {
+    if last == b"line".as_slice() {
         return Said {
             line: number,
             ..said
         };
     }
-    if last == b"at" {
+    if last == b"at".as_slice() {
         return Said {
             place: Some(number),
             ..said

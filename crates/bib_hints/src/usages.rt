@@ -8,22 +8,28 @@ use std::alloc::AllocError;
 /// The hints about words that are no command. The first is the program's name.
 pub fn hint_usage(lines: &mut Lines, words: &[String]) -> Result<(), AllocError> {
     let command = word(words, 1);
-    if command == b"help" && is_verb(word(words, 2)) {
+    if command == b"help".as_slice() && is_verb(word(words, 2)) {
         let parts = [Part::Name(word(words, 2))];
         return lines.say(b"% is an edit; type: bibkeep help edit", &parts);
     }
     if is_verb(command) {
         let parts = [Part::Name(command)];
-        return lines.say(b"% is an edit; type: bibkeep edit F % ..", &[parts[0], parts[0]]);
+        return lines.say(
+            b"% is an edit; type: bibkeep edit F % ..",
+            &[parts[0], parts[0]],
+        );
     }
     if has(words, b"--dry-run") {
         return lines.say(b"--print shows the new file, and stores nothing", &[]);
     }
-    if command == b"undo" || command == b"redo" {
+    if command == b"undo".as_slice() || command == b"redo".as_slice() {
         let parts = [Part::Name(command)];
-        return lines.say(b"type the number of changes so: bibkeep % F --steps 2", &parts);
+        return lines.say(
+            b"type the number of changes so: bibkeep % F --steps 2",
+            &parts,
+        );
     }
-    if command == b"edit" {
+    if command == b"edit".as_slice() {
         return hint_edit_usage(lines, words);
     }
     if takes_keys(command) && words.len() == 3 {
@@ -33,14 +39,23 @@ pub fn hint_usage(lines: &mut Lines, words: &[String]) -> Result<(), AllocError>
 }
 
 fn hint_edit_usage(lines: &mut Lines, words: &[String]) -> Result<(), AllocError> {
-    if word(words, 3) == b"add" || word(words, 3) == b"move" {
-        return lines.say(b"positions count from 0; the count of items is the end", &[]);
+    if word(words, 3) == b"add".as_slice() || word(words, 3) == b"move".as_slice() {
+        return lines.say(
+            b"positions count from 0; the count of items is the end",
+            &[],
+        );
     }
-    lines.say(b"put -- before words of an edit that begin with a hyphen", &[])
+    lines.say(
+        b"put -- before words of an edit that begin with a hyphen",
+        &[],
+    )
 }
 
 fn takes_keys(command: &[u8]) -> bool {
-    command == b"cite" || command == b"labels" || command == b"json" || command == b"ris"
+    command == b"cite".as_slice()
+        || command == b"labels".as_slice()
+        || command == b"json".as_slice()
+        || command == b"ris".as_slice()
 }
 
 fn has(words: &[String], option: &[u8]) -> bool {

@@ -2,48 +2,48 @@
 
 /// The words of an edit that begins with this word, or nothing if none does.
 pub fn form_of(verb: &[u8]) -> &'static [u8] {
-    if verb == b"set" {
+    if verb == b"set".as_slice() {
         return b"set KEY FIELD VALUE";
     }
-    if verb == b"drop" {
+    if verb == b"drop".as_slice() {
         return b"drop KEY FIELD";
     }
-    if verb == b"add" {
+    if verb == b"add".as_slice() {
         return b"add POSITION TYPE KEY FIELD VALUE ..";
     }
-    if verb == b"remove" {
+    if verb == b"remove".as_slice() {
         return b"remove KEY";
     }
-    if verb == b"move" {
+    if verb == b"move".as_slice() {
         return b"move KEY POSITION";
     }
-    if verb == b"regenerate" {
+    if verb == b"regenerate".as_slice() {
         return b"regenerate [DEPTH]";
     }
     form_of_macro_edit(verb)
 }
 
 fn form_of_macro_edit(verb: &[u8]) -> &'static [u8] {
-    if verb == b"rename-key" {
+    if verb == b"rename-key".as_slice() {
         return b"rename-key FROM TO";
     }
-    if verb == b"rename-macro" {
+    if verb == b"rename-macro".as_slice() {
         return b"rename-macro FROM TO";
     }
-    if verb == b"inline" {
+    if verb == b"inline".as_slice() {
         return b"inline NAME";
     }
-    if verb == b"introduce" {
+    if verb == b"introduce".as_slice() {
         return b"introduce NAME TEXT";
     }
     form_of_step(verb)
 }
 
 fn form_of_step(verb: &[u8]) -> &'static [u8] {
-    if verb == b"group" {
+    if verb == b"group".as_slice() {
         return b"group LABEL";
     }
-    if verb == b"end" {
+    if verb == b"end".as_slice() {
         return b"end";
     }
     b""

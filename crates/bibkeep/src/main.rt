@@ -10,12 +10,17 @@ ghost use Rattle.bib_run.specs.Runs.{RanOver, fresh, view_of};
 ghost use Rattle.bibkeep.specs.Ending.{IsFinished, EndsFor};
 
 mod endings;
+mod saying;
 mod storing;
 
-use bib_command::parse;
+use bib_command::{Request, parse_request};
 use bib_run::{Outcome, Tap, WRITE_FAULT, run};
+use bib_streams::{Heard, Kept};
 use bib_words::{Command, status};
-use endings::{end, end_run, end_unknown, end_unopened, end_usage, end_without_words};
+use endings::{
+    end, end_run, end_unknown, end_unopened, end_usage, end_without_words, errors, output,
+};
+use saying::{Ran, Streams, invite, may_hint, say_hints, say_trouble, say_unstored, say_usage};
 use std::alloc::Global;
 use std::fs::File;
 use std::io::{ErrorKind, Read};
@@ -32,52 +37,64 @@ fn main(rt: HostRuntime) -> ExitCode {
 fn answer_words(rt: &HostRuntime, alloc: Global) -> u8 {
     let words = match env::args(rt) {
         Ok(words) => words,
-        Err(error) => return end_without_words(&mut Tap::new(rt.stderr()), &error),
+        Err(error) => return end_without_words(&mut errors(rt), &error),
     };
     let words: Vec<String> = match words.collect(alloc) {
         Ok(words) => words,
-        Err(error) => return end_without_words(&mut Tap::new(rt.stderr()), &error.into()),
+        Err(error) => return end_without_words(&mut errors(rt), &error.into()),
     };
-    match parse(alloc, words.as_slice()) {
-        Ok(command) => perform(rt, alloc, &command),
-        Err(usage) => end_usage(
-            &mut Tap::new(rt.stdout()),
-            &mut Tap::new(rt.stderr()),
-            &usage,
-        ),
+    match parse_request(alloc, words.as_slice()) {
+        Ok(Request { command, hints }) => perform(rt, alloc, &command, may_hint(rt, hints)),
+        Err(usage) => {
+            let status = end_usage(&mut output(rt, false), &mut errors(rt), &usage);
+            say_usage(rt, alloc, words.as_slice(), status);
+            status
+        }
     }
 }
 
 /// Runs the command over the file that it names and its journal, or over standard input if it names no file; `explain`
-/// reads neither. What is new is put in its place.
-fn perform(rt: &HostRuntime, alloc: Global, command: &Command) -> u8
+/// reads neither. What is new is put in its place. With `hints`, hints follow a message.
+fn perform(rt: &HostRuntime, alloc: Global, command: &Command, hints: bool) -> u8
     requires { IsCommand command.now }
     ensures { EndsFor command.now result }
 {
     if command.is_named(b"explain") {
-        return run_alone(rt, alloc, command, b"".as_slice());
+        return run_alone(rt, alloc, command, hints, b"".as_slice());
     }
     let Some(path) = command.words.as_slice().first() else {
-        return run_alone(rt, alloc, command, rt.stdin());
+        return run_alone(rt, alloc, command, hints, rt.stdin());
     };
     let Ok(path) = str::from_utf8(path.as_slice()) else {
-        return end_unknown(&mut Tap::new(rt.stderr()));
+        return end_unknown(&mut errors(rt));
     };
     match open(rt, alloc, command, path) {
-        Ok((file, journal)) => run_opened(rt, alloc, command, path, file, journal),
-        Err(error) => end_unopened(&mut Tap::new(rt.stderr()), &error),
+        Ok((file, journal)) => run_opened(rt, alloc, command, hints, path, file, journal),
+        Err(error) => {
+            let status = end_unopened(&mut errors(rt), &error);
+            say_trouble(rt, alloc, command, hints, path.as_bytes(), error.kind());
+            status
+        }
     }
 }
 
 /// Runs the command over a source that has no journal and no place for a new file.
-fn run_alone<F: Read>(rt: &HostRuntime, alloc: Global, command: &Command, source: F) -> u8
+fn run_alone<F: Read>(
+    rt: &HostRuntime,
+    alloc: Global,
+    command: &Command,
+    hints: bool,
+    source: F,
+) -> u8
 where
     F: Drop,
     requires { IsCommand command.now }
     ensures { EndsFor command.now result }
 {
-    let outcome = run_over(rt, alloc, command, source, None::<File>);
-    end_run(&mut Tap::new(rt.stderr()), &outcome)
+    let ran = run_over(rt, alloc, command, hints, source, None::<File>);
+    let status = end_run(&mut errors(rt), &ran.outcome, ran.streams.is_closed());
+    say_hints(rt, alloc, command, hints, &ran);
+    status
 }
 
 /// Runs the command over its file and its journal, and puts what is new in its place.
@@ -85,6 +102,7 @@ fn run_opened(
     rt: &HostRuntime,
     alloc: Global,
     command: &Command,
+    hints: bool,
     path: &str,
     file: File,
     journal: Option<File>,
@@ -93,8 +111,13 @@ fn run_opened(
     requires path { slice_get command.now.words 0 ≡ Some path.now }
     ensures { EndsFor command.now result }
 {
-    let outcome = run_over(rt, alloc, command, file, journal);
-    finish(rt, alloc, path, &outcome).status
+    let ran = run_over(rt, alloc, command, hints, file, journal);
+    let finished = finish(rt, alloc, path, &ran);
+    say_hints(rt, alloc, command, hints, &ran);
+    if let Some(error) = finished.unstored {
+        say_unstored(rt, alloc, hints, path.as_bytes(), error.kind());
+    }
+    finished.status
 }
 
 /// Opens the file, and its journal if there is one and the command reads it. If standard input is closed, the file gets
@@ -123,30 +146,38 @@ fn open(
     }
 }
 
-/// The status to end with, and what was put in place.
+/// The status to end with, what was put in place, and why storing failed if it did.
 #[derive(Drop)]
 struct Finished<'a> {
     status: u8,
     stored: Stored<'a>,
+    unstored: Option<io::Error>,
 }
 
 /// Says how the run over this file ended, and puts the new file and the new journal, if there are any, in their places.
-fn finish<'a>(rt: &HostRuntime, alloc: Global, path: &str, outcome: &'a Outcome) -> Finished<'a>
-    ensures { IsFinished outcome.now result.status (option_copied result.stored.put.file) (option_copied result.stored.put.journal) }
+fn finish<'a>(rt: &HostRuntime, alloc: Global, path: &str, ran: &'a Ran) -> Finished<'a>
+    ensures { IsFinished ran.now.outcome result.status (option_copied result.stored.put.file) (option_copied result.stored.put.journal) }
 {
-    let status = end_run(&mut Tap::new(rt.stderr()), outcome);
+    let outcome = &ran.outcome;
+    let status = end_run(&mut errors(rt), outcome, ran.streams.is_closed());
     let left = left_by(outcome);
     if left.is_nothing() {
         return Finished {
             status,
             stored: Stored::nothing(),
+            unstored: None,
         };
     }
     match store(rt, alloc, path, left) {
-        Ok(stored) => Finished { status, stored },
-        Err(_) => Finished {
-            status: end(&mut Tap::new(rt.stderr()), WRITE_FAULT, status::FAULT),
+        Ok(stored) => Finished {
+            status,
+            stored,
+            unstored: None,
+        },
+        Err(error) => Finished {
+            status: end(&mut errors(rt), WRITE_FAULT, status::FAULT),
             stored: Stored::nothing(),
+            unstored: Some(error),
         },
     }
 }
@@ -156,27 +187,33 @@ fn run_over<F: Read, J: Read>(
     rt: &HostRuntime,
     alloc: Global,
     command: &Command,
+    hints: bool,
     file: F,
     journal: Option<J>,
-) -> Outcome
+) -> Ran
 where
     F: Drop,
     J: Drop,
     requires { IsCommand command.now }
-    ensures { RanOver command.now (F.remaining file) (option_map J.remaining journal) result }
+    ensures { RanOver command.now (F.remaining file) (option_map J.remaining journal) result.outcome }
 {
-    let mut file = Tap::new(file);
+    invite(rt, alloc, command, hints);
+    let mut file = Tap::new(Kept::new(alloc, Heard::new(file), hints));
     let mut journal = over(journal);
-    let mut input = Tap::new(rt.stdin());
-    let mut out = Tap::new(rt.stdout());
-    run(
+    let mut input = Tap::new(Kept::new(alloc, Heard::new(rt.stdin()), hints));
+    let mut out = output(rt, command.is_named(b"lint"));
+    let outcome = run(
         alloc,
         command,
         &mut file,
         journal.as_mut(),
         &mut input,
         &mut out,
-    )
+    );
+    Ran {
+        outcome,
+        streams: Streams::of(file.into_inner(), input.into_inner(), out.into_inner()),
+    }
 }
 
 /// A new tap over the source, if there is one.
