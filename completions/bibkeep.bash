@@ -28,12 +28,12 @@ _bibkeep() {
     fi
     if [[ $current == -* ]]; then
         case $command in
-            cite) mapfile -t COMPREPLY < <(compgen -W '--min-crossrefs --help' -- "$current") ;;
-            show | labels | json | names | newkeys) mapfile -t COMPREPLY < <(compgen -W '--depth --help' -- "$current") ;;
-            ris) mapfile -t COMPREPLY < <(compgen -W '--depth --dropped --help' -- "$current") ;;
-            edit | import) mapfile -t COMPREPLY < <(compgen -W '--print --new-journal --help' -- "$current") ;;
-            undo | redo) mapfile -t COMPREPLY < <(compgen -W '--steps --print --help' -- "$current") ;;
-            *) mapfile -t COMPREPLY < <(compgen -W '--help' -- "$current") ;;
+            cite) mapfile -t COMPREPLY < <(compgen -W '--min-crossrefs --hints --help' -- "$current") ;;
+            show | labels | json | names | newkeys) mapfile -t COMPREPLY < <(compgen -W '--depth --hints --help' -- "$current") ;;
+            ris) mapfile -t COMPREPLY < <(compgen -W '--depth --dropped --hints --help' -- "$current") ;;
+            edit | import) mapfile -t COMPREPLY < <(compgen -W '--print --new-journal --hints --help' -- "$current") ;;
+            undo | redo) mapfile -t COMPREPLY < <(compgen -W '--steps --print --hints --help' -- "$current") ;;
+            *) mapfile -t COMPREPLY < <(compgen -W '--hints --help' -- "$current") ;;
         esac
         return
     fi

@@ -105,8 +105,12 @@ abbrev pub hints : Rule
 hints = switch (codes "hints")
 
 -- the command with one more subcommand
+abbrev pub joins : App → App → App
+joins a s = with_subcommand a s.top
+
+-- the command with one more subcommand, which has the option `--hints` too
 abbrev pub adds : App → App → App
-adds a s = with_subcommand a (with_rule s hints).top
+adds a s = joins a (with_rule s hints)
 
 -- `bibkeep`, which has a version and wants a subcommand; without a word it shows its help
 abbrev pub bibkeep_top : App

@@ -1,6 +1,6 @@
 //! Faults of files, of journals and of questions, and calls that failed.
 
-use crate::asked::{Asked, Trouble};
+use crate::asking::{Asked, Trouble};
 use crate::items::{column_of, line_of};
 use crate::lines::Lines;
 use crate::parts::Part;

@@ -1,6 +1,6 @@
 //! Scripts and RIS texts that are refused.
 
-use crate::asked::Asked;
+use crate::asking::Asked;
 use crate::edits::hint_form;
 use crate::faults::hint_fault;
 use crate::items::{before, holders, items_of, line_of};

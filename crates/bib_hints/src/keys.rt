@@ -1,6 +1,6 @@
 //! Keys that no entry has.
 
-use crate::asked::Asked;
+use crate::asking::Asked;
 use crate::items::{holders, items_of};
 use crate::lines::Lines;
 use crate::parts::Part;
@@ -29,7 +29,7 @@ pub fn hint_unknown_keys(lines: &mut Lines, asked: &Asked<'_>) -> Result<(), All
     }
     if unknown > NAMED {
         let parts = [Part::Count(unknown - NAMED)];
-        lines.say(b"and % more keys", &parts)?;
+        lines.say(b"and % more", &parts)?;
     }
     let parts = [Part::Typed(name, b"F")];
     lines.say(b"bibkeep cite % '*' lists the keys", &parts)

@@ -3,10 +3,10 @@
 //! no writers, and decides nothing. It promises a few lines that begin with two spaces and have no control byte.
 #![tactic(auto)]
 
-mod asked;
+mod asking;
 mod edits;
 mod faults;
-mod hints;
+mod hinting;
 mod inputs;
 mod items;
 mod keys;
@@ -18,5 +18,5 @@ mod script;
 mod usages;
 mod verbs;
 
-pub use asked::{Asked, Ended, Trouble};
-pub use hints::{hints, hints_of_storing, hints_of_trouble, hints_of_usage, invitation};
+pub use asking::{Asked, Ended, Trouble};
+pub use hinting::{hints, hints_of_storing, hints_of_trouble, hints_of_usage, invitation};

@@ -1,6 +1,6 @@
 //! Notes on a run that was not refused.
 
-use crate::asked::Asked;
+use crate::asking::Asked;
 use crate::items::{Item, definitions, holders, items_of};
 use crate::lines::Lines;
 use crate::parts::Part;

@@ -32,16 +32,16 @@ pub fn hint_usage(lines: &mut Lines, words: &[String]) -> Result<(), AllocError>
     if command == b"edit".as_slice() {
         return hint_edit_usage(lines, words);
     }
-    if takes_keys(command) && words.len() == 3 {
+    if takes_keys(command) && argument_count(words) == 1 {
         return lines.say(b"a KEY is one of the file, or '*' for every entry", &[]);
     }
     Ok(())
 }
 
 fn hint_edit_usage(lines: &mut Lines, words: &[String]) -> Result<(), AllocError> {
-    if word(words, 3) == b"add".as_slice() || word(words, 3) == b"move".as_slice() {
+    if has(words, b"add") || has(words, b"move") {
         return lines.say(
-            b"positions count from 0; the count of items is the end",
+            b"positions count from 0, and the number of items is the end of the file",
             &[],
         );
     }
@@ -56,6 +56,17 @@ fn takes_keys(command: &[u8]) -> bool {
         || command == b"labels".as_slice()
         || command == b"json".as_slice()
         || command == b"ris".as_slice()
+}
+
+/// How many words follow the command, without options.
+fn argument_count(words: &[String]) -> usize {
+    let mut count = 0usize;
+    'words: for word in words {
+        if !word.as_bytes().starts_with(b"-") {
+            count = count.saturating_add(1);
+        }
+    }
+    count.saturating_sub(2)
 }
 
 fn has(words: &[String], option: &[u8]) -> bool {

@@ -3,7 +3,7 @@
 ghost use Rattle.std.specs.Prelude.{IfOk};
 ghost use Rattle.bib_hints.specs.Hints.{AreHints};
 
-use crate::asked::{Asked, Ended, Trouble};
+use crate::asking::{Asked, Ended, Trouble};
 use crate::edits::{Edit, hint_edit};
 use crate::faults::{hint_fault, hint_storing, hint_trouble};
 use crate::inputs::{hint_import, hint_script};
