@@ -1,5 +1,6 @@
 -- What hints look like. (dialect)
-use Rattle.std.specs.Prelude.{◌≡◌, ℕ, ◌+◌, ◌≤◌, ◌==◌, ◌||◌, nat_lt, List, [], ◌∷◌, ◌++◌, length, concat_map, if◌then◌else◌}
+use Rattle.std.specs.Prelude.{◌≡◌, ℕ, ◌+◌, ◌≤◌, ◌==◌, ◌||◌, nat_lt, List, [], ◌∷◌, ◌++◌, length, if◌then◌else◌}
+use Rattle.std.specs.List.{flat_map}
 use Rattle.bib_spec.specs.Text.{Text}
 
 -- a control byte as a caret and a letter, as `^[`; another byte as it is
@@ -8,7 +9,7 @@ visible b = if nat_lt b 32 || b == 127 then 94 ∷ (if b == 127 then 63 else b +
 
 -- a line of hints: two spaces, words without a control byte, and a line feed
 abbrev pub hint_line : Text → Text
-hint_line words = 32 ∷ 32 ∷ (concat_map visible words ++ 10 ∷ [])
+hint_line words = 32 ∷ 32 ∷ (flat_map visible words ++ 10 ∷ [])
 
 -- at most so many lines
 abbrev pub line_limit : ℕ
@@ -18,4 +19,4 @@ line_limit = 8
 pub record AreHints (text : Text) : Type 0 where
   pub lines : List Text
   pub few : length lines ≤ line_limit
-  pub laid_out : text ≡ concat_map hint_line lines
+  pub laid_out : text ≡ flat_map hint_line lines

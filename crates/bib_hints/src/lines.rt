@@ -1,6 +1,7 @@
 //! Lines of hints.
 
-ghost use Rattle.std.specs.Prelude.{◌≡◌, ◌++◌, ◌≤◌, ◌∷◌, [], length, take, concat_map, IfOk, OnOk};
+ghost use Rattle.std.specs.Prelude.{◌≡◌, ◌++◌, ◌≤◌, ◌∷◌, [], length, take, IfOk, OnOk};
+ghost use Rattle.std.specs.List.{flat_map};
 ghost use Rattle.bib_hints.specs.Hints.{visible, hint_line, line_limit, AreHints};
 
 use crate::parts::{Part, append};
@@ -70,7 +71,7 @@ fn few(lines: &[Text]) -> &[Text]
 
 /// The lines as they are printed.
 fn laid_out(alloc: Global, lines: &[Text]) -> Result<Text, AllocError>
-    ensures { IfOk result (λ text. text ≡ concat_map hint_line lines.now) }
+    ensures { IfOk result (λ text. text ≡ flat_map hint_line lines.now) }
 {
     let mut text = Vec::new(alloc);
     'lines: for line in lines {
@@ -92,7 +93,7 @@ fn add_line(text: &mut Vec<u8>, words: &[u8]) -> Result<(), AllocError>
 
 /// Adds the words, with their control bytes made visible.
 fn add_words(text: &mut Vec<u8>, words: &[u8]) -> Result<(), AllocError>
-    ensures { OnOk result (text.new.items ≡ text.old.items ++ concat_map visible words.now) }
+    ensures { OnOk result (text.new.items ≡ text.old.items ++ flat_map visible words.now) }
 {
     'bytes: for byte in words {
         add_visible(text, *byte)?;

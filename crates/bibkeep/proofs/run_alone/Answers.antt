@@ -2,4 +2,4 @@ use Rattle.bibkeep.specs.Ending.{EndsFor}
 use Rattle.bibkeep.proofs.run_alone.Goals as goal
 
 pub returns : goal.returns
-returns g c = EndsFor.ran _ _ _ c.run_over-outcome.ensures c.end_run.ensures.status
+returns g c = EndsFor.ran _ _ _ c.run_over-ran.ensures c.end_run-status.ensures.status
