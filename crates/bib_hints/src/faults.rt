@@ -101,11 +101,11 @@ pub fn hint_trouble(
     command: &Command,
     trouble: Trouble<'_>,
 ) -> Result<(), AllocError> {
-    let parts = [Part::Name(trouble.on), Part::Name(reason_of(trouble.kind))];
-    lines.say(b"%: %", &parts)?;
+    let reason = Part::Name(reason_of(trouble.kind));
     if trouble.kind != ErrorKind::NotFound {
-        return Ok(());
+        return lines.say(b"%: %", &[Part::Name(trouble.on), reason]);
     }
+    lines.say(b"%: %", &[Part::Name(trouble.on), reason])?;
     if trouble.on == b"-".as_slice() {
         return lines.say(
             b"here - is the name of a file; /dev/stdin names standard input",

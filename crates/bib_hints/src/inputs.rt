@@ -3,14 +3,15 @@
 use crate::asking::Asked;
 use crate::edits::hint_form;
 use crate::faults::hint_fault;
-use crate::items::{before, holders, items_of, line_of};
+use crate::items::{before, first_holders, line_of, note_first};
 use crate::lines::Lines;
 use crate::parts::Part;
 use crate::said::Said;
 use crate::script::line_in;
 use crate::verbs::is_verb;
 use bib_scan::is_balanced;
-use bib_text::{same_folded, trimmed};
+use bib_text::trimmed;
+use folded_map::FoldedMap;
 use std::alloc::AllocError;
 
 /// The hints about a line of a script that is none.
@@ -127,18 +128,18 @@ fn hint_unbalanced(lines: &mut Lines, input: &[u8]) -> Result<(), AllocError> {
 /// An ID of the input that an entry has, or that two records have.
 fn hint_id(lines: &mut Lines, asked: &Asked<'_>) -> Result<(), AllocError> {
     let alloc = lines.alloc();
-    let items = items_of(alloc, asked.file)?;
+    let starts = first_holders(alloc, asked.file)?;
+    let mut ids = FoldedMap::new(alloc);
     let mut number = 0usize;
     'lines: for line in asked.input.split(|byte| *byte == b'\n') {
         number = number.saturating_add(1);
         if let Some(id) = line.strip_prefix(b"ID  -") {
             let id = trimmed(id);
-            let found = holders(alloc, items.as_slice(), id)?;
-            if let Some(item) = found.as_slice().first() {
+            if let Some(start) = starts.get(id) {
                 let parts = [
                     Part::Count(number),
                     Part::Name(id),
-                    Part::Count(line_of(asked.file, item.start)),
+                    Part::Count(line_of(asked.file, *start)),
                     Part::Name(asked.name()),
                 ];
                 lines.say(
@@ -147,11 +148,12 @@ fn hint_id(lines: &mut Lines, asked: &Asked<'_>) -> Result<(), AllocError> {
                 )?;
                 return hint_other_id(lines);
             }
-            if let Some(first) = line_with_id(asked.input, number, id) {
-                let parts = [Part::Count(first), Part::Count(number), Part::Name(id)];
+            if let Some(first) = ids.get(id) {
+                let parts = [Part::Count(*first), Part::Count(number), Part::Name(id)];
                 lines.say(b"lines % and % of the input have the same ID: %", &parts)?;
                 return hint_other_id(lines);
             }
+            note_first(&mut ids, id, number)?;
         }
     }
     Ok(())
@@ -159,21 +161,4 @@ fn hint_id(lines: &mut Lines, asked: &Asked<'_>) -> Result<(), AllocError> {
 
 fn hint_other_id(lines: &mut Lines) -> Result<(), AllocError> {
     lines.say(b"give the record another ID, or remove that line", &[])
-}
-
-/// The first line before this one with the same ID.
-fn line_with_id(input: &[u8], end: usize, id: &[u8]) -> Option<usize> {
-    let mut number = 0usize;
-    'lines: for line in input.split(|byte| *byte == b'\n') {
-        number = number.saturating_add(1);
-        if number >= end {
-            return None;
-        }
-        if let Some(other) = line.strip_prefix(b"ID  -") {
-            if same_folded(trimmed(other), id) {
-                return Some(number);
-            }
-        }
-    }
-    None
 }

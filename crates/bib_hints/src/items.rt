@@ -1,6 +1,7 @@
 //! The items of a file, and where they are.
 
-use bib_scan::{FieldView, ItemView, Kind, Reader, same_folded};
+use bib_scan::{FieldView, ItemView, Kind, NAME_LIMIT, Reader, same_folded};
+use folded_map::FoldedMap;
 use memchr::memrchr;
 use std::alloc::{AllocError, Global};
 
@@ -52,6 +53,30 @@ pub fn holders<'a>(
         }
     }
     Ok(found)
+}
+
+/// Where the first entry of each key begins.
+pub fn first_holders(alloc: Global, file: &[u8]) -> Result<FoldedMap<usize>, AllocError> {
+    let mut starts = FoldedMap::new(alloc);
+    let items = items_of(alloc, file)?;
+    'items: for item in items.as_slice() {
+        if item.kind == Kind::Entry && !item.key.is_empty() {
+            note_first(&mut starts, item.key, item.start)?;
+        }
+    }
+    Ok(starts)
+}
+
+/// Gives a name its number, if it has none.
+pub fn note_first(
+    numbers: &mut FoldedMap<usize>,
+    name: &[u8],
+    number: usize,
+) -> Result<(), AllocError> {
+    if name.len() <= NAME_LIMIT && numbers.get(name).is_none() {
+        numbers.insert(name, number)?;
+    }
+    Ok(())
 }
 
 /// The definitions of this macro, ignoring case.

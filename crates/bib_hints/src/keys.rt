@@ -1,7 +1,7 @@
 //! Keys that no entry has.
 
 use crate::asking::Asked;
-use crate::items::{holders, items_of};
+use crate::items::first_holders;
 use crate::lines::Lines;
 use crate::parts::Part;
 use std::alloc::AllocError;
@@ -12,14 +12,14 @@ const NAMED: usize = 3;
 /// The keys of a command that no entry of its file has.
 pub fn hint_unknown_keys(lines: &mut Lines, asked: &Asked<'_>) -> Result<(), AllocError> {
     let alloc = lines.alloc();
-    let items = items_of(alloc, asked.file)?;
+    let starts = first_holders(alloc, asked.file)?;
     let name = asked.name();
     let mut unknown = 0usize;
     let mut n = 0usize;
     'words: for word in asked.command.words.as_slice() {
         let is_key = n == 1 || n > 1 && !asked.command.is_named(b"names");
         n = n.saturating_add(1);
-        if is_key && holders(alloc, items.as_slice(), word.as_slice())?.is_empty() {
+        if is_key && starts.get(word.as_slice()).is_none() {
             unknown = unknown.saturating_add(1);
             if unknown <= NAMED {
                 let parts = [Part::Name(name), Part::Name(word.as_slice())];
