@@ -35,12 +35,12 @@ _bibkeep() {
     fi
     if [[ $current == -* && -z $has_ended ]]; then
         case $command in
-            cite) options='--min-crossrefs --help' ;;
-            show | labels | json | names | newkeys) options='--depth --help' ;;
-            ris) options='--depth --dropped --help' ;;
-            edit | import) options='--print --new-journal --help' ;;
-            undo | redo) options='--steps --print --help' ;;
-            *) options='--help' ;;
+            cite) options='--min-crossrefs --hints --help' ;;
+            show | labels | json | names | newkeys) options='--depth --hints --help' ;;
+            ris) options='--depth --dropped --hints --help' ;;
+            edit | import) options='--print --new-journal --hints --help' ;;
+            undo | redo) options='--steps --print --hints --help' ;;
+            *) options='--hints --help' ;;
         esac
         _bibkeep_offer <<<"${options// /$'\n'}"
         return

@@ -99,6 +99,7 @@ complete -c bibkeep -n __fish_use_subcommand -a explain -d 'Explains a refusal: 
 complete -c bibkeep -n __fish_use_subcommand -a help -d 'Print this message or the help of the given subcommand(s)'
 
 complete -c bibkeep -n '__fish_seen_subcommand_from cat check lint show cite labels json names newkeys edit undo redo log forget ris import explain' -s h -l help -d 'Print help'
+complete -c bibkeep -n '__fish_seen_subcommand_from cat check lint show cite labels json names newkeys edit undo redo log forget ris import explain' -l hints -d 'Prints hints below a message, as on a terminal'
 complete -c bibkeep -n '__fish_seen_subcommand_from edit import undo redo' -l print -d 'Writes the new file to standard output, and stores nothing'
 complete -c bibkeep -n '__fish_seen_subcommand_from edit import' -l new-journal -d 'Begins a new journal if the old one is not a journal or does not fit the file'
 complete -c bibkeep -n '__fish_seen_subcommand_from undo redo' -l steps -x -d 'How many changes, from 1 to 65535'

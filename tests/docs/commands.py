@@ -11,8 +11,8 @@ from console import run
 
 Command = collections.namedtuple("Command", "name about arguments options examples")
 
-# What every program of clap has.
-COMMON = {"help", "version"}
+# What every program of clap has, and what every command has.
+COMMON = {"help", "version", "hints"}
 
 
 def compare(report, root, pages, program):
@@ -139,7 +139,7 @@ def compare_bash(report, path, commands):
 def compare_answers(report, path, commands):
     """What bash offers for a command, and for the options of each."""
     for words, wanted in [(["c"], {c.name for c in commands if c.name.startswith("c")})] + [
-        ([command.name, "--"], {f"--{option}" for option in command.options} | {"--help"}) for command in commands
+        ([command.name, "--"], {f"--{option}" for option in command.options} | {"--help", "--hints"}) for command in commands
     ]:
         line = " ".join(["bibkeep", *words])
         script = f"source '{path}'; COMP_LINE='{line}'; COMP_POINT={len(line)}; _bibkeep; printf '%s\\n' \"${{COMPREPLY[@]}}\""

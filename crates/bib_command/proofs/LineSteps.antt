@@ -4,7 +4,7 @@ use Rattle.clap.specs.Words.{App, Rule, AddsArg, AddsSubcommand, rule_of, with_r
 use Rattle.clap.specs.declared.builder.Command.{Command}
 use Rattle.clap.specs.declared.builder.Arg.{Arg}
 use Rattle.bib_command.specs.Lines.{Reads}
-use Rattle.bib_command.specs.CommandLine.{adds}
+use Rattle.bib_command.specs.CommandLine.{joins}
 
 or_false : (a b c : _) → c ≡ (a || b) → a ≡ false → b ≡ false → c ≡ false
 or_false a b c e x y = e ∙ ap₂ (λ p q. p || q) x y
@@ -17,8 +17,8 @@ reads_rule old new a line r h o e l = record {
 }
 
 -- a command with one more subcommand
-pub reads_subcommand : (old sub new : Command) (x y : App) → AddsSubcommand old sub new → Reads x old → Reads y sub → Reads (adds x y) new
+pub reads_subcommand : (old sub new : Command) (x y : App) → AddsSubcommand old sub new → Reads x old → Reads y sub → Reads (joins x y) new
 reads_subcommand old sub new x y h o s = record {
-  app = h.shape s.local ∙ ap₂ adds o.app s.app;
+  app = h.shape s.local ∙ ap₂ joins o.app s.app;
   local = or_false _ _ _ h.globals o.local s.local;
 }

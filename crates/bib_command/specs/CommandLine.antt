@@ -100,13 +100,21 @@ import_line = with_rule (with_rule (over_file (codes "import")) (switch (codes "
 abbrev pub explain_line : App
 explain_line = with_rule (new_app (codes "explain")) (needed (codes "FAULT"))
 
--- the command with one more subcommand
-abbrev pub adds : App → App → App
-adds a s = with_subcommand a s.top
+-- `--hints`, which each command has
+abbrev pub hints : Rule
+hints = switch (codes "hints")
 
--- `bibkeep`, which has a version and wants a subcommand
+-- the command with one more subcommand
+abbrev pub joins : App → App → App
+joins a s = with_subcommand a s.top
+
+-- the command with one more subcommand, which has the option `--hints` too
+abbrev pub adds : App → App → App
+adds a s = joins a (with_rule s hints)
+
+-- `bibkeep`, which has a version and wants a subcommand; without a word it shows its help
 abbrev pub bibkeep_top : App
-bibkeep_top = on_top (λ s. record s { has_version = true; subcommand_required = true }) (new_app (codes "bibkeep"))
+bibkeep_top = on_top (λ s. record s { has_version = true; subcommand_required = true; arg_required_else_help = true }) (new_app (codes "bibkeep"))
 
 -- the program with the commands that show what a file says
 abbrev pub bibkeep_shows : App
@@ -171,3 +179,7 @@ pub record IsCommandOf (words : List Text) (c : Command) : Type 0 where
   pub rows : List Row
   pub named : subcommand_of bibkeep words ≡ Some (name, rows)
   pub command : c ≡ command_of name rows
+
+-- the words ask for hints
+abbrev pub asks_for_hints : List Text → Bool
+asks_for_hints words = option_map_or (λ (found : Text × List Row). given (codes "hints") found.1) (subcommand_of bibkeep words) false

@@ -74,6 +74,18 @@ pub fn new_journal<'a>(alloc: Global) -> Arg<'a>
     )
 }
 
+/// `--hints`.
+pub fn hints<'a>(alloc: Global) -> Arg<'a>
+    ensures rule { rule_of result ≡ switch (codes "hints") }
+    ensures local { result.global ≡ false }
+{
+    switch(
+        alloc,
+        "hints",
+        "Prints hints below a message, as on a terminal",
+    )
+}
+
 /// An option with a number, which is `default` if the option is left out.
 pub fn count<'a>(alloc: Global, name: &'a str, default: &'a str, help: &'a str) -> Arg<'a>
     ensures rule { rule_of result ≡ count name.entry.now default.entry.now }

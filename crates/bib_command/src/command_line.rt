@@ -6,7 +6,7 @@ ghost use Rattle.bib_command.specs.Lines.{Reads};
 ghost use Rattle.bib_command.specs.CommandLine.{adds, over_file, cat_line, show_line, cite_line, keys_line, names_line, newkeys_line, edit_line, steps_line, ris_line, import_line, explain_line, bibkeep_top, bibkeep_shows, bibkeep_makes, bibkeep_edits, bibkeep};
 
 use crate::arguments::{
-    any_file, count, edit_words, keys, levels, needed, new_journal, print, switch,
+    any_file, count, edit_words, hints, keys, levels, needed, new_journal, print, switch,
 };
 use clap::Command;
 use std::alloc::{AllocError, Global};
@@ -16,7 +16,8 @@ pub fn command_line<'a>(alloc: Global) -> Result<Command<'a>, AllocError>
     ensures { IfOk result (Reads bibkeep) }
 {
     adds(
-        adds(adds(edits(alloc), ris(alloc)), import(alloc)),
+        alloc,
+        adds(alloc, adds(alloc, edits(alloc), ris(alloc)), import(alloc)),
         explain(alloc),
     )
 }
@@ -26,18 +27,19 @@ fn edits<'a>(alloc: Global) -> Result<Command<'a>, AllocError>
     ensures { IfOk result (Reads bibkeep_edits) }
 {
     let turns = adds(
-        adds(adds(makes(alloc), edit(alloc)), undo(alloc)),
+        alloc,
+        adds(alloc, adds(alloc, makes(alloc), edit(alloc)), undo(alloc)),
         redo(alloc),
     );
-    adds(adds(turns, log(alloc)), forget(alloc))
+    adds(alloc, adds(alloc, turns, log(alloc)), forget(alloc))
 }
 
 /// With the commands that make labels, JSON, names or keys of what a file says.
 fn makes<'a>(alloc: Global) -> Result<Command<'a>, AllocError>
     ensures { IfOk result (Reads bibkeep_makes) }
 {
-    let records = adds(adds(shows(alloc), labels(alloc)), json(alloc));
-    adds(adds(records, names(alloc)), newkeys(alloc))
+    let records = adds(alloc, adds(alloc, shows(alloc), labels(alloc)), json(alloc));
+    adds(alloc, adds(alloc, records, names(alloc)), newkeys(alloc))
 }
 
 /// With the commands that show what a file says.
@@ -45,20 +47,22 @@ fn shows<'a>(alloc: Global) -> Result<Command<'a>, AllocError>
     ensures { IfOk result (Reads bibkeep_shows) }
 {
     let checks = adds(
-        adds(adds(top(alloc), cat(alloc)), check(alloc)),
+        alloc,
+        adds(alloc, adds(alloc, top(alloc), cat(alloc)), check(alloc)),
         lint(alloc),
     );
-    adds(adds(checks, show(alloc)), cite(alloc))
+    adds(alloc, adds(alloc, checks, show(alloc)), cite(alloc))
 }
 
-/// The command with one more subcommand, if there was memory to make both.
+/// The command with one more subcommand, which has the option `--hints` too, if there was memory to make both.
 fn adds<'a>(
+    alloc: Global,
     command: Result<Command<'a>, AllocError>,
     more: Result<Command<'a>, AllocError>,
 ) -> Result<Command<'a>, AllocError>
     ensures { (a s : App) → IfOk command.entry (Reads a) → IfOk more.entry (Reads s) → IfOk result (Reads (adds a s)) }
 {
-    command?.subcommand(more?)
+    command?.subcommand(more?.arg(hints(alloc))?)
 }
 
 /// The program. Help calls it bibkeep, even if the file that it was started from has another name.
@@ -80,6 +84,7 @@ Examples:
     )
     .version("0.1.0")
     .subcommand_required(true)
+    .arg_required_else_help(true)
     .bin_name("bibkeep")
 }
 

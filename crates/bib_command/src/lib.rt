@@ -8,5 +8,5 @@ mod parsing;
 mod usages;
 
 pub use bib_words::Command;
-pub use parsing::parse;
+pub use parsing::{Request, parse, parse_request};
 pub use usages::Usage;

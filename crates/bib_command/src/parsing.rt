@@ -2,7 +2,7 @@
 
 ghost use Rattle.std.specs.Prelude.{◌≡◌, ◌++◌, IfOk, IfErr, OnOk, map, string_bytes, [], true};
 ghost use Rattle.clap.specs.Words.{fault_of, takes, rows_of, found_of};
-ghost use Rattle.bib_command.specs.CommandLine.{bibkeep, values, words_in, number, depth, given, command_of, IsCommandOf};
+ghost use Rattle.bib_command.specs.CommandLine.{bibkeep, values, words_in, number, depth, given, command_of, IsCommandOf, asks_for_hints};
 ghost use Rattle.bib_command.specs.Usage.{no_memory, IsUsageFor};
 ghost use Rattle.bib_words.specs.Command.{IsCommand};
 
@@ -14,10 +14,37 @@ use bib_words::Command;
 use clap::ArgMatches;
 use std::alloc::{AllocError, Global};
 
+/// A command, and whether its words ask for hints.
+#[derive(Drop)]
+pub struct Request {
+    pub command: Command,
+    pub hints: bool,
+}
+
 /// The command that the words name, or the text for the user. The first word is the program's own name.
 pub fn parse(alloc: Global, words: &[String]) -> Result<Command, Usage>
     ensures ok { IfOk result (IsCommandOf (map string_bytes words.now)) }
     ensures known { IfOk result IsCommand }
+
+    // Only words that clap's exact matching accepts give a command.
+    ensures accepted { OnOk result (fault_of bibkeep (map string_bytes words.now) ≡ []) }
+    ensures err { IfErr result (IsUsageFor (map string_bytes words.now)) }
+
+    // Words that name a command are refused only if memory runs out.
+    ensures taken { takes bibkeep (map string_bytes words.now) ≡ true → IfErr result (λ usage. usage ≡ no_memory) }
+{
+    match parse_request(alloc, words) {
+        Ok(request) => Ok(request.command),
+        Err(usage) => Err(usage),
+    }
+}
+
+/// The command that the words name, with whether they ask for hints, or the text for the user. The first word is the program's
+/// own name.
+pub fn parse_request(alloc: Global, words: &[String]) -> Result<Request, Usage>
+    ensures ok { IfOk result (λ request. IsCommandOf (map string_bytes words.now) request.command) }
+    ensures known { IfOk result (λ request. IsCommand request.command) }
+    ensures hints { IfOk result (λ request. request.hints ≡ asks_for_hints (map string_bytes words.now)) }
 
     // Only words that clap's exact matching accepts give a command.
     ensures accepted { OnOk result (fault_of bibkeep (map string_bytes words.now) ≡ []) }
@@ -33,7 +60,10 @@ pub fn parse(alloc: Global, words: &[String]) -> Result<Command, Usage>
         Ok(matches) => match matches.subcommand() {
             Some((name, inner)) => match command_of(alloc, name, inner) {
                 // clap has checked how many words the command takes, but its contract does not say so
-                Ok(command) if command.is_known() => Ok(command),
+                Ok(command) if command.is_known() => Ok(Request {
+                    command,
+                    hints: is_given(inner, "hints"),
+                }),
                 _ => Err(no_memory(alloc)),
             },
             None => unreachable!(),

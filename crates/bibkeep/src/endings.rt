@@ -1,17 +1,31 @@
 //! What the program says at the end, and the status with which it ends.
 
-ghost use Rattle.std.specs.Prelude.{◌≡◌, ◌≢◌, ◌⊎◌};
+ghost use Rattle.std.specs.Prelude.{◌≡◌, ◌≢◌, ◌⊎◌, true, false};
 ghost use Rattle.bib_taps.specs.Taps.{tap_inner, has_failed};
 ghost use Rattle.bib_run.specs.Transfers.{Tells};
 
 use bib_command::Usage;
 use bib_run::{Outcome, READ_FAULT, Tap, WRITE_FAULT, write_whole};
+use bib_streams::{Heard, Shown};
 use bib_words::status;
 use std::io;
-use std::io::{ErrorKind, Write};
+use std::io::{ErrorKind, IsTerminal, Stderr, Stdout, Write};
 
 /// The message of want of memory.
 const MEMORY: &[u8] = b"bibkeep: 10 Memory\n";
+
+/// Standard error. Messages have names from files, so their control bytes are always shown.
+pub fn errors(rt: &HostRuntime) -> Tap<Shown<Stderr>> {
+    Tap::new(Shown::new(rt.stderr(), true))
+}
+
+/// Standard output. Control bytes are shown if it is a terminal, or if `shows`.
+pub fn output(rt: &HostRuntime, shows: bool) -> Tap<Shown<Heard<Stdout>>>
+    ensures { has_failed result ≡ false }
+{
+    let out = rt.stdout();
+    Tap::new(Shown::new(Heard::new(out), shows || out.is_terminal()))
+}
 
 /// Writes this to standard error, and returns the status. There is nowhere to report a fault of standard error.
 pub fn end<E: Write>(errors: &mut Tap<E>, text: &[u8], status: u8) -> u8
@@ -74,11 +88,15 @@ pub fn end_usage<O: Write, E: Write>(out: &mut Tap<O>, errors: &mut Tap<E>, usag
     }
 }
 
-/// The message of a run, and its status.
-pub fn end_run<E: Write>(errors: &mut Tap<E>, outcome: &Outcome) -> u8
+/// The message of a run, and its status. There is no message if the reader of the output was gone before its end.
+pub fn end_run<E: Write>(errors: &mut Tap<E>, outcome: &Outcome, is_closed: bool) -> u8
     ensures status { result ≡ outcome.now.status }
-    ensures told { outcome.now.status ≢ 4 → Tells (E.contents (tap_inner errors.old)) (E.contents (tap_inner errors.new)) outcome.now.message (has_failed errors.new) }
+    ensures told { is_closed ≡ false → outcome.now.status ≢ 4 → Tells (E.contents (tap_inner errors.old)) (E.contents (tap_inner errors.new)) outcome.now.message (has_failed errors.new) }
+    ensures silent { is_closed ≡ true → outcome.now.status ≡ 3 → errors.new ≡ errors.old }
 {
+    if is_closed && outcome.status == status::FAULT {
+        return status::FAULT;
+    }
     if outcome.status == status::MEMORY {
         return end(errors, MEMORY, status::MEMORY);
     }

@@ -11,15 +11,20 @@ ghost use Rattle.bibkeep.specs.Ending.{RanHere, RanAndFinished, RanAlone};
 mod disk;
 mod endings;
 mod opening;
+mod saying;
 mod storing;
 
-use bib_command::parse;
+use bib_command::{Request, parse_request};
 use bib_files::{Folder, Paths};
-use bib_run::{Outcome, Tap, WRITE_FAULT, run};
+use bib_run::{Tap, WRITE_FAULT, run};
+use bib_streams::{Heard, Kept};
 use bib_words::{Command, status};
 use disk::Disk;
-use endings::{end, end_run, end_unknown, end_unopened, end_usage, end_without_words};
+use endings::{
+    end, end_run, end_unknown, end_unopened, end_usage, end_without_words, errors, output,
+};
 use opening::{Journal, Opened, expect_room, open, stores};
+use saying::{Ran, Streams, invite, may_hint, say_hints, say_trouble, say_unstored, say_usage};
 use std::alloc::Global;
 use std::fs::File;
 use std::io::Read;
@@ -35,77 +40,97 @@ fn main(rt: HostRuntime) -> ExitCode {
 fn answer_words(rt: &HostRuntime, alloc: Global) -> u8 {
     let words = match env::args(rt) {
         Ok(words) => words,
-        Err(error) => return end_without_words(&mut Tap::new(rt.stderr()), &error),
+        Err(error) => return end_without_words(&mut errors(rt), &error),
     };
     let words: Vec<String> = match words.collect(alloc) {
         Ok(words) => words,
-        Err(error) => return end_without_words(&mut Tap::new(rt.stderr()), &error.into()),
+        Err(error) => return end_without_words(&mut errors(rt), &error.into()),
     };
-    match parse(alloc, words.as_slice()) {
-        Ok(command) => perform(rt, alloc, &command),
-        Err(usage) => end_usage(
-            &mut Tap::new(rt.stdout()),
-            &mut Tap::new(rt.stderr()),
-            &usage,
-        ),
+    match parse_request(alloc, words.as_slice()) {
+        Ok(Request { command, hints }) => perform(rt, alloc, &command, may_hint(rt, hints)),
+        Err(usage) => {
+            let status = end_usage(&mut output(rt, false), &mut errors(rt), &usage);
+            say_usage(rt, alloc, words.as_slice(), status);
+            status
+        }
     }
 }
 
 /// Runs the command over the file that it names and its journal, or over standard input if it names no file; `explain`
-/// reads neither. What is new is put in its place.
-fn perform(rt: &HostRuntime, alloc: Global, command: &Command) -> u8
+/// reads neither. What is new is put in its place. With `hints`, hints follow a message.
+fn perform(rt: &HostRuntime, alloc: Global, command: &Command, hints: bool) -> u8
     requires { IsCommand command.now }
 {
     if command.is_named(b"explain") {
-        return run_alone(rt, alloc, command, b"".as_slice());
+        return run_alone(rt, alloc, command, hints, b"".as_slice());
     }
     let Some(path) = command.words.as_slice().first() else {
-        return run_alone(rt, alloc, command, rt.stdin());
+        return run_alone(rt, alloc, command, hints, rt.stdin());
     };
     let Ok(path) = str::from_utf8(path.as_slice()) else {
-        return end_unknown(&mut Tap::new(rt.stderr()));
+        return end_unknown(&mut errors(rt));
     };
     match open(rt, alloc, command, path) {
-        Ok(opened) => run_opened(rt, alloc, command, &opened),
-        Err(error) => end_unopened(&mut Tap::new(rt.stderr()), &error),
+        Ok(opened) => run_opened(rt, alloc, command, hints, &opened),
+        Err(error) => {
+            let status = end_unopened(&mut errors(rt), &error);
+            say_trouble(rt, alloc, command, hints, path.as_bytes(), error.kind());
+            status
+        }
     }
 }
 
 /// Runs the command over a source that has no journal and no place for a new file.
-fn run_alone<F: Read>(rt: &HostRuntime, alloc: Global, command: &Command, source: F) -> u8
+fn run_alone<F: Read>(
+    rt: &HostRuntime,
+    alloc: Global,
+    command: &Command,
+    hints: bool,
+    source: F,
+) -> u8
 where
     F: Drop,
     requires { IsCommand command.now }
     ensures { RanAlone command.now (F.remaining source) result }
 {
-    let outcome = run_over(rt, alloc, command, source, None::<File>);
-    end_run(&mut Tap::new(rt.stderr()), &outcome)
+    let ran = run_over(rt, alloc, command, hints, source, None::<File>);
+    let status = end_run(&mut errors(rt), &ran.outcome, ran.streams.is_closed());
+    say_hints(rt, alloc, command, hints, &ran);
+    status
 }
 
 /// Runs the command over its file and its journal, unless it stores something for which there is no room. A link in the
 /// place of the journal is read as an empty text, which is no journal.
-fn run_opened(rt: &HostRuntime, alloc: Global, command: &Command, opened: &Opened) -> u8
+fn run_opened(
+    rt: &HostRuntime,
+    alloc: Global,
+    command: &Command,
+    hints: bool,
+    opened: &Opened,
+) -> u8
     requires { IsCommand command.now }
 {
     let file = &opened.file;
     let paths = opened.paths.as_ref();
     if let Some(paths) = paths
         && stores(command)
-        && expect_room(rt, file, paths).is_err()
+        && let Err(error) = expect_room(rt, file, paths)
     {
-        return end(&mut Tap::new(rt.stderr()), WRITE_FAULT, status::FAULT);
+        let status = end(&mut errors(rt), WRITE_FAULT, status::FAULT);
+        say_unstored(rt, alloc, command, hints, error.kind());
+        return status;
     }
     let mut disk = Disk { rt, file };
     match &opened.journal {
         Journal::Found(journal) => {
-            run_stored(rt, alloc, command, &mut disk, paths, file, Some(journal))
+            run_stored(rt, alloc, command, hints, &mut disk, paths, file, Some(journal))
         }
         Journal::Link => {
             let damaged = Some(b"".as_slice());
-            run_stored(rt, alloc, command, &mut disk, paths, file, damaged)
+            run_stored(rt, alloc, command, hints, &mut disk, paths, file, damaged)
         }
         Journal::Missing => {
-            run_stored(rt, alloc, command, &mut disk, paths, file, None::<&File>)
+            run_stored(rt, alloc, command, hints, &mut disk, paths, file, None::<&File>)
         }
     }
 }
@@ -115,6 +140,7 @@ fn run_stored<D: Folder, F: Read, J: Read>(
     rt: &HostRuntime,
     alloc: Global,
     command: &Command,
+    hints: bool,
     folder: &mut D,
     paths: Option<&Paths>,
     file: F,
@@ -126,36 +152,48 @@ where
     requires { IsCommand command.now }
     ensures { RanAndFinished command.now (option_copied paths.entry) (F.remaining file) (option_map J.remaining journal) result (D.files folder.old) (D.files folder.new) }
 {
-    let outcome = run_over(rt, alloc, command, file, journal);
-    finish(folder, &mut Tap::new(rt.stderr()), paths, &outcome)
+    let ran = run_over(rt, alloc, command, hints, file, journal);
+    let is_closed = ran.streams.is_closed();
+    let finished = finish(folder, &mut errors(rt), paths, &ran.outcome, is_closed);
+    say_hints(rt, alloc, command, hints, &ran);
+    if let Some(error) = finished.unstored {
+        say_unstored(rt, alloc, command, hints, error.kind());
+    }
+    finished.status
 }
 
-/// Runs the command over the file and its journal, standard input and standard output.
+/// Runs the command over the file and its journal, standard input and standard output. What is read is kept for hints.
 fn run_over<F: Read, J: Read>(
     rt: &HostRuntime,
     alloc: Global,
     command: &Command,
+    hints: bool,
     file: F,
     journal: Option<J>,
-) -> Outcome
+) -> Ran
 where
     F: Drop,
     J: Drop,
     requires { IsCommand command.now }
-    ensures { RanHere command.now (F.remaining file) (option_map J.remaining journal) result }
+    ensures { RanHere command.now (F.remaining file) (option_map J.remaining journal) result.outcome }
 {
-    let mut file = Tap::new(file);
+    invite(rt, alloc, command, hints);
+    let mut file = Tap::new(Kept::new(alloc, Heard::new(file), hints));
     let mut journal = over(journal);
-    let mut input = Tap::new(rt.stdin());
-    let mut out = Tap::new(rt.stdout());
-    run(
+    let mut input = Tap::new(Kept::new(alloc, Heard::new(rt.stdin()), hints));
+    let mut out = output(rt, command.is_named(b"lint"));
+    let outcome = run(
         alloc,
         command,
         &mut file,
         journal.as_mut(),
         &mut input,
         &mut out,
-    )
+    );
+    Ran {
+        outcome,
+        streams: Streams::of(file.into_inner(), input.into_inner(), out.into_inner()),
+    }
 }
 
 /// A new tap over the source, if there is one.

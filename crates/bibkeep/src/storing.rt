@@ -9,30 +9,52 @@ use bib_files::{Folder, Paths, store};
 use bib_run::{Outcome, Tap, WRITE_FAULT};
 use bib_text::Text;
 use bib_words::status;
+use std::io;
 use std::io::Write;
 
+/// The status to end with, and why storing failed if a call did.
+#[derive(Drop)]
+pub struct Finished {
+    pub status: u8,
+    pub unstored: Option<io::Error>,
+}
+
 /// Says how the run ended, puts the new file and the new journal that it leaves, if there are any, in their places, and
-/// returns the status to end with. If they cannot be stored, or have no place, that is said too, and the status is 3.
+/// returns the status to end with. If they cannot be stored, or have no place, that is said too, and the status is 3. With
+/// `is_closed`, the reader of the output was gone before its end.
 pub fn finish<D: Folder, E: Write>(
     folder: &mut D,
     errors: &mut Tap<E>,
     paths: Option<&Paths>,
     outcome: &Outcome,
-) -> u8
-    ensures { IsFinished (option_copied paths.entry) outcome.now result (D.files folder.old) (D.files folder.new) }
+    is_closed: bool,
+) -> Finished
+    ensures { IsFinished (option_copied paths.entry) outcome.now result.status (D.files folder.old) (D.files folder.new) }
 {
-    let status = end_run(errors, outcome);
+    let status = end_run(errors, outcome, is_closed);
     let file = bytes_of(&outcome.file);
     let journal = bytes_of(&outcome.journal);
     if file.is_none() && journal.is_none() {
-        return status;
+        return Finished {
+            status,
+            unstored: None,
+        };
     }
     let Some(paths) = paths else {
-        return end(errors, WRITE_FAULT, status::FAULT);
+        return Finished {
+            status: end(errors, WRITE_FAULT, status::FAULT),
+            unstored: None,
+        };
     };
     match store(folder, paths, file, journal) {
-        Ok(()) => status,
-        Err(_) => end(errors, WRITE_FAULT, status::FAULT),
+        Ok(()) => Finished {
+            status,
+            unstored: None,
+        },
+        Err(error) => Finished {
+            status: end(errors, WRITE_FAULT, status::FAULT),
+            unstored: Some(error),
+        },
     }
 }
 

@@ -1,4 +1,4 @@
 use Rattle.bibkeep.proofs.run_alone.Goals as goal
 
 pub returns : goal.returns
-returns g c = record { outcome = c.run_over-outcome.result; ran = c.run_over-outcome.ensures; is = c.end_run.ensures.status }
+returns g c = record { outcome = c.run_over-ran.result.outcome; ran = c.run_over-ran.ensures; is = c.end_run-status.ensures.status }

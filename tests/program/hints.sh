@@ -1,0 +1,167 @@
+# Hints: which, where, and what now.
+# shellcheck shell=sh
+
+given hinted.bib '@string{cup = "CUP"}\n@string{twice = "a"}\n@string{twice = "b"}\n@book{knuth, author = {Donald E. Knuth},\n  title = {One},\n  title = {Two}}\n@inproceedings{ld86, title = {One}, crossref = {podc}}\n@inproceedings{ld87, title = {Two}, crossref = "PODC"}\n@proceedings{podc, title = {Proc}, year = 1986}\n@misc{dup, t = 1}\n@misc{DUP, t = 2}\n@misc{orphan, crossref = {nobody}}\n'
+
+# One edit with hints, which stores nothing: it says the message and these lines.
+when_edited() {
+    when edit hinted.bib --hints --print "$@"
+    ends_with 1
+}
+
+hinted() {
+    says "bibkeep: $1
+$2
+  bibkeep explain ${1%% *} says more"
+}
+
+# Which key, field or macro, and which line.
+when json hinted.bib --hints knuth k1 k2 k3 k4; ends_with 1; hinted '11 NoSuchEntry' "  no entry of hinted.bib has the key k1
+  no entry of hinted.bib has the key k2
+  no entry of hinted.bib has the key k3
+  and 1 more
+  bibkeep cite hinted.bib '*' lists the keys"
+when_edited rename-key knuth 'a b'; hinted '31 BadKey' '  a b can be no key: a key has 1 to 255 bytes, and no space, control byte, comma or brace'
+when_edited set knuth 'a=b' 1; hinted '32 BadName' '  a=b can be no name of a field'
+when_edited add 0 string new; hinted '32 BadName' '  string is no type of an entry, such as book or article'
+when_edited set knuth author 'Knuth, Donald'; hinted '33 BadValue' "  Knuth, Donald is not written as a value in a file
+  a text is written in braces: '{Knuth, Donald}'"
+when_edited set knuth author '{x} '; hinted '33 BadValue' '  the value begins or ends with white space: {x} '
+when_edited set knuth author '{x'; hinted '33 BadValue' '  {x is not written as a value in a file
+  its braces do not match'
+when_edited add 0 misc new t ''; hinted '33 BadValue' '  the value is empty: an empty text is written {}'
+when_edited introduce new 'a}'; hinted '33 BadValue' '  the braces of the text a} do not match'
+when_edited add 11 misc new; hinted '34 BadPosition' '  hinted.bib has 10 items, counted from 0; that number is the end of the file'
+when_edited move knuth 10; hinted '34 BadPosition' '  hinted.bib has 9 other items, counted from 0; that number moves the entry to the end'
+when_edited set nobody t 1; hinted '35 NotFound' "  no entry of hinted.bib has the key nobody
+  bibkeep cite hinted.bib '*' lists the keys"
+when_edited drop knuth note; hinted '35 NotFound' '  the entry knuth has no field note of its own
+  bibkeep show hinted.bib knuth prints its fields; change an inherited one in the parent'
+when_edited inline no; hinted '35 NotFound' '  hinted.bib does not define the macro no
+  grep -in @string hinted.bib lists the definitions'
+when_edited inline jan; hinted '35 NotFound' '  hinted.bib does not define the month jan, and need not'
+when_edited introduce new none; hinted '35 NotFound' '  no value has the whole part {none}, nor the same in quotes'
+when_edited set dup t 3; hinted '36 Ambiguous' '  the key dup is that of 2 entries: lines 10 and 11
+  remove one of the two in an editor, and then type: bibkeep forget hinted.bib'
+when_edited set knuth title 3; hinted '36 Ambiguous' '  the entry knuth has the field title twice: lines 5 and 6
+  remove one of the two in an editor, and then type: bibkeep forget hinted.bib'
+when_edited inline twice; hinted '36 Ambiguous' '  the macro twice is defined 2 times: lines 2 and 3
+  remove one of the two in an editor, and then type: bibkeep forget hinted.bib'
+when_edited rename-key knuth PODC; hinted '37 KeyInUse' '  the entry in line 9 has the key podc already'
+when_edited rename-key knuth nobody; hinted '37 KeyInUse' '  the crossref of orphan in line 12 names nobody, which no entry has
+  the renamed entry would become its parent'
+when_edited rename-macro cup twice; hinted '38 NameInUse' '  the macro twice is defined in line 2 already'
+when_edited rename-macro cup jan; hinted '38 NameInUse' '  jan is the name of a month'
+when_edited remove podc; hinted '39 Referred' '  the crossref of ld86 in line 7 names podc
+  the crossref of ld87 in line 8 names podc
+  first type, for each of them: bibkeep edit hinted.bib drop ld87 crossref'
+when_edited set-type knuth book; hinted '71 BadScript' '  set-type is no edit
+  the edits: set drop add remove move rename-key rename-macro inline introduce regenerate; in a script also group end'
+when_edited drop knuth; hinted '71 BadScript' '  its words are: drop KEY FIELD
+  bibkeep help edit says more'
+when explain --hints foo; ends_with 1; hinted '13 NoSuchFault' '  foo is neither the number nor the name of a fault'
+when undo hinted.bib --hints; ends_with 1; hinted '51 NothingToUndo' '  bibkeep log hinted.bib lists the changes'
+
+# A line of a script: the words are those of the line, and the file has the edits before it.
+given hinted.script 'add\t0\tmisc\tnew\nremove\tnew\r\nremove\tnew\n'
+input=hinted.script; when edit hinted.bib --hints; ends_with 1; says "bibkeep: line 3: 35 NotFound
+  no entry of hinted.bib has the key new
+  bibkeep cite hinted.bib '*' lists the keys
+  bibkeep explain 35 says more"
+given hinted.script '@article{x, title={y}}\n'
+input=hinted.script; when edit hinted.bib --hints; ends_with 1; says 'bibkeep: line 1: 71 BadScript
+  the line: @article{x, title={y}}
+  this looks like BibTeX
+  a script has one edit on each line, its words separated by tabs
+  bibkeep explain 71 says more'
+given hinted.script 'set knuth t 3\n'
+input=hinted.script; when edit hinted.bib --hints; ends_with 1; says 'bibkeep: line 1: 71 BadScript
+  the line: set knuth t 3
+  its words are separated by spaces; a script wants a tab between two words
+  bibkeep explain 71 says more'
+
+# Where a file, a journal or a RIS text goes wrong.
+given hinted_bad.bib '@misc{a,\n  t = "x}y"}\n'
+when check hinted_bad.bib --hints; ends_with 1; says 'bibkeep: 6 UnbalancedBrace at 17
+  hinted_bad.bib, line 2, column 9
+  the line: t = "x}y"}
+  bibkeep explain 6 says more'
+input=hinted_bad.bib; when cat --hints; ends_with 1; says 'bibkeep: 6 UnbalancedBrace at 17
+  standard input, line 2, column 9
+  the line: t = "x}y"}
+  bibkeep explain 6 says more'
+given hinted_new.bib '@misc{a, t = 1}\n'
+when edit hinted_new.bib set a t 2; ends_with 0
+given hinted_new.bib '@misc{b, t = 1}\n'
+when log hinted_new.bib --hints; ends_with 1; hinted '54 JournalMismatch' '  hinted_new.bib was changed by an editor or another program since bibkeep stored it
+  bibkeep forget hinted_new.bib goes on; what was done before can then no longer be undone'
+given hinted_new.bib.bibkeep 'x\n'
+when log hinted_new.bib --hints; ends_with 1; says 'bibkeep: 53 BadJournal at 0
+  hinted_new.bib.bibkeep is not a journal of bibkeep
+  bibkeep forget hinted_new.bib goes on; what was done before can then no longer be undone
+  bibkeep explain 53 says more'
+given hinted.ris 'TY  - BOOK\nTI  - One\nER  - \nTY  - BOOK\nTI  - a}b\nER  - \n'
+input=hinted.ris; when import hinted.bib --hints; ends_with 1; hinted '64 UnbalancedText' '  record 2 of the input, line 5: TI  - a}b'
+given hinted.ris 'TY  - BOOK\nTI  - One\nTY  - BOOK\nER  - \n'
+input=hinted.ris; when import hinted.bib --hints; ends_with 1; says 'bibkeep: 62 NoEnd at 21
+  the record that begins in line 1 of the input has no line ER before line 3  TI  - One
+  write before that line: ER  - 
+  bibkeep explain 62 says more'
+given hinted.ris 'TY  - BOOK\nID  - PODC\nER  - \n'
+input=hinted.ris; when import hinted.bib --hints; ends_with 1; hinted '37 KeyInUse' '  line 2 of the input has the ID PODC, which is the key in line 9 of hinted.bib
+  give the record another ID, or remove that line'
+
+# The system's reason.
+when show hinted_none.bib --hints a; ends_with 3; says 'bibkeep: read fault
+  hinted_none.bib: there is no such file'
+when check --hints .; ends_with 3; says 'bibkeep: read fault
+  .: it is a folder'
+when edit --hints set hinted.bib knuth t 1; ends_with 3; says 'bibkeep: read fault
+  set: there is no such file
+  the file comes before the edit: bibkeep edit F set ..'
+when lint --hints -- -; ends_with 3; says 'bibkeep: read fault
+  -: there is no such file
+  here - is the name of a file; /dev/stdin names standard input'
+when_shell_runs '"$program" check hinted.bib --hints >/dev/full'; ends_with 3; says 'bibkeep: write fault
+  standard output: no space is left'
+
+# What was not refused, and does something else than it seems to do.
+when edit hinted.bib --hints --print set knuth author Knuth; ends_with 0; says "  Knuth is a macro that is not defined: the field author is empty now
+  a text is written in braces: bibkeep edit hinted.bib set knuth author '{Knuth}'"
+when edit hinted.bib --hints --print set knuth publisher CUP; ends_with 0; says_nothing
+when edit hinted.bib --hints --print set knuth month MAY; ends_with 0; says_nothing
+when edit hinted.bib --hints --print set knuth note '{Knuth}'; ends_with 0; says_nothing
+input=hinted_bad.bib; when import hinted.bib --hints --print; ends_with 0; says '  no record in the input
+  this looks like BibTeX; import reads RIS'
+
+# The words of the command line.
+when undo hinted.bib 2 --hints; ends_with 2; complains_of '  type the number of changes so: bibkeep undo F --steps 2'
+when undo hinted.bib --all --hints; ends_with 2; complains_of '  type the number of changes so: bibkeep undo F --steps 2'
+when edit hinted.bib --hints --dry-run set a t 1; ends_with 2; complains_of '  --print shows the new file, and stores nothing'
+when edit hinted.bib --hints add -1 misc a; ends_with 2; complains_of '  positions count from 0, and the number of items is the end of the file'
+when edit hinted.bib --hints drop -k t; ends_with 2; complains_of '  put -- before words of an edit that begin with a hyphen'
+when help regenerate --hints; ends_with 2; complains_of '  regenerate is an edit; type: bibkeep help edit'
+when set hinted.bib --hints; ends_with 2; complains_of '  set is an edit; type: bibkeep edit F set ..'
+when cite --hints hinted.bib; ends_with 2; complains_of "  a KEY is one of the file, or '*' for every entry"
+
+# No file puts a control byte into hints, nor words that a shell runs, nor long lines.
+given hostile_hints.bib '@misc{a\033[31m, t = 1}\n@misc{$(id), t = 1}\n@misc{A\033[31m, t = 2}\n'
+when edit hostile_hints.bib --hints drop "$(printf 'a\033[31m')" t; ends_with 1; hinted '36 Ambiguous' '  the key a^[[31m is that of 2 entries: lines 1 and 3
+  remove one of the two in an editor, and then type: bibkeep forget hostile_hints.bib'
+when edit hostile_hints.bib --hints drop '$(id)' no; ends_with 1; hinted '35 NotFound' "  the entry \$(id) has no field no of its own
+  bibkeep show hostile_hints.bib '\$(id)' prints its fields; change an inherited one in the parent"
+when edit hostile_hints.bib --hints drop "$(printf 'x\ny')" no; ends_with 1; hinted '35 NotFound' "  no entry of hostile_hints.bib has the key x^Jy
+  bibkeep cite hostile_hints.bib '*' lists the keys"
+given "it's.bib" '@misc{a}\n'
+when edit "it's.bib" --hints drop b t; ends_with 1; hinted '35 NotFound' "  no entry of it's.bib has the key b
+  bibkeep cite F '*' lists the keys"
+long=$(head -c 100 /dev/zero | tr '\0' k)
+when edit hinted.bib --hints drop "$long" t; ends_with 1; hinted '35 NotFound' "  no entry of hinted.bib has the key $(head -c 60 /dev/zero | tr '\0' k)..
+  bibkeep cite hinted.bib '*' lists the keys"
+
+# Without the option, and without a terminal, nothing is said beside the message.
+when edit hinted.bib remove podc; ends_with 1; says 'bibkeep: 39 Referred'
+when edit hinted.bib --print set knuth author Knuth; ends_with 0; says_nothing
+
+# Hints change nothing else, whatever the file.
+when_shell_runs 'python3 "$root/tests/program/hints_change_nothing.py" "$program"'; ends_with 0; writes_nothing
