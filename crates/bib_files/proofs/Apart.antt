@@ -26,8 +26,8 @@ apart file = record {
 pub apart_so : (file a b c d : Text) → a ≡ file → b ≡ file ++ codes ".bibkeep" → c ≡ file ++ codes ".bibkeep-new" → d ≡ file ++ codes ".bibkeep.bibkeep-new"
     → AreApart (record { file = a; journal = b; new_file = c; new_journal = d })
 apart_so file a b c d is_a is_b is_c is_d =
-  subst (λ (x : Text). AreApart (record { file = x; journal = b; new_file = c; new_journal = d })) (sym is_a)
-  (subst (λ (x : Text). AreApart (record { file = file; journal = x; new_file = c; new_journal = d })) (sym is_b)
-  (subst (λ (x : Text). AreApart (record { file = file; journal = file ++ codes ".bibkeep"; new_file = x; new_journal = d })) (sym is_c)
-  (subst (λ (x : Text). AreApart (record { file = file; journal = file ++ codes ".bibkeep"; new_file = file ++ codes ".bibkeep-new"; new_journal = x })) (sym is_d)
-  (apart file))))
+    subst (λ (x : Text). AreApart (record { file = x; journal = b; new_file = c; new_journal = d })) (sym is_a)
+    (subst (λ (x : Text). AreApart (record { file = file; journal = x; new_file = c; new_journal = d })) (sym is_b)
+    (subst (λ (x : Text). AreApart (record { file = file; journal = file ++ codes ".bibkeep"; new_file = x; new_journal = d })) (sym is_c)
+    (subst (λ (x : Text). AreApart (record { file = file; journal = file ++ codes ".bibkeep"; new_file = file ++ codes ".bibkeep-new"; new_journal = x })) (sym is_d)
+    (apart file))))

@@ -138,12 +138,7 @@ fn write<D: Folder>(folder: &mut D, path: &str, bytes: Option<&[u8]>) -> io::Res
 }
 
 /// Puts what was written at one path at another, if anything was, or removes it if that can be done.
-fn put<D: Folder>(
-    folder: &mut D,
-    from: &str,
-    to: &str,
-    bytes: Option<&[u8]>,
-) -> io::Result<()>
+fn put<D: Folder>(folder: &mut D, from: &str, to: &str, bytes: Option<&[u8]>) -> io::Result<()>
     ensures ok { OnOk result (Told (MovesIf (option_copied bytes.entry) from.now to.now) (D.files folder.old) (D.files folder.new)) }
     ensures err { OnErr result (Told (Keeps from.now) (D.files folder.old) (D.files folder.new)) }
 {

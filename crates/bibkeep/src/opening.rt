@@ -45,12 +45,7 @@ pub fn stores(command: &Command) -> bool
 
 /// Opens the file, and its journal if there is one and the command reads it. If standard input is closed, the file gets
 /// the number of standard input. Then it would be read as the input too, so a command that takes input fails.
-pub fn open(
-    rt: &HostRuntime,
-    alloc: Global,
-    command: &Command,
-    path: &str,
-) -> io::Result<Opened>
+pub fn open(rt: &HostRuntime, alloc: Global, command: &Command, path: &str) -> io::Result<Opened>
     requires { slice_get command.now.words 0 ≡ Some path.now }
     ensures apart { TakesInput command.now → IfOk result (λ opened. file_raw_fd opened.file ≢ pos 0) }
 {
@@ -99,10 +94,7 @@ fn open_locked(rt: &HostRuntime, path: &str) -> io::Result<File> {
     for _ in 0..ATTEMPT_LIMIT {
         let file = File::open(rt, path)?;
         let opened = file.metadata()?;
-        if !opened.is_file()
-            || file.lock().is_err()
-            || is_same(&opened, &fs::metadata(rt, path)?)
-        {
+        if !opened.is_file() || file.lock().is_err() || is_same(&opened, &fs::metadata(rt, path)?) {
             return Ok(file);
         }
     }
