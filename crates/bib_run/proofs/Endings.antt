@@ -1,56 +1,32 @@
--- The ways in which a run ends.
-use Rattle.bib_run.proofs.Words.{◌≡◌, ◌+◌, Bool, true, false, [], length, take, Option, None, refl, ap, subst, sym, arith, take_all, Appends, file_limit, Text, Command, Answer, IsAnswer, ReadsUpTo, WritesPrefix}
-use Rattle.bib_run.specs.Runs.{HasAnswer, HasJournal, HasInput, ReadsInput, TapView, TapsView, held, has_any_failed, read, unread, front, nothing}
-use Rattle.bib_run.proofs.WholeFile.{source_bytes, IsAnswer-front, IsAnswer-input_front}
+-- What was read of a source, and what was written.
+use Rattle.bib_run.proofs.Words.{◌≡◌, ◌+◌, true, length, Option, refl, subst, sym, arith, take_all, Appends, file_limit, Text, Command, ReadsUpTo, WritesPrefix}
+use Rattle.std.proofs.Common.{ap₂}
+use Rattle.bib_run.specs.declared.reading.Sources.{Sources}
+use Rattle.bib_run.specs.Views.{TapView}
+use Rattle.bib_run.specs.Sources.{SourcesView, WasRead, HasInput, HasJournal, HasRead, Keeps}
+use Rattle.bib_run.proofs.WholeFile.{source_bytes}
 
--- the input whose front was read
-pub record IsInputFrom (command : Command) (old new : TapView) (v : Text) : Type 0 where
-  pub bytes : Text
-  pub has : HasInput command old new bytes
-  pub start : take (file_limit + 1) bytes ≡ v
+-- the front of a source was kept
+pub keeps_front : (old new : TapView) (kept : Text) → ReadsUpTo (file_limit + 1) old.bytes new.bytes kept → new.failed ≡ old.failed → Keeps (WasRead old new) kept
+keeps_front old new kept reads sound =
+    let from = source_bytes (file_limit + 1) old.bytes new.bytes kept reads in
+    record { bytes = from.bytes; hold = record { read = from.has; sound = sound }; kept_is = sym from.front }
 
-input_bytes : (command : Command) (old new : TapView) (v : Text) → ReadsInput command old new v → IsInputFrom command old new v
-input_bytes command old new v (front named reads sound) =
-    let from = source_bytes (file_limit + 1) old.bytes new.bytes v reads in
-    record { bytes = from.bytes; has = read named (record { read = from.has; sound = sound }); start = from.front }
-input_bytes command old new v (nothing named same none) = record { bytes = []; has = unread named same refl; start = sym none }
+-- the bytes of a file, a journal and an input
+abbrev sources_of : Text → Option Text → Text → Sources
+sources_of file journal input = record { file = file; journal = journal; input = input }
 
--- a tap on which nothing depends, in place of one that is not there
-pub no_tap : TapView
-no_tap = record { bytes = None; failed = false }
-
--- no call on the input's tap failed, whether it was read or not
-pub input_sound : (command : Command) (old new : TapView) (v : Text) → ReadsInput command old new v → new.failed ≡ old.failed
-input_sound command old new v (front named reads sound) = sound
-input_sound command old new v (nothing named same none) = ap (λ (tap : TapView). tap.failed) same
-
--- the answer to what was read
-pub has_answer : (command : Command) (old new : TapsView) (v : Text) (journal : Option Text) (w : Text) (answer : Answer) → ReadsUpTo (file_limit + 1) old.file.bytes new.file.bytes v
-    → new.file.failed ≡ old.file.failed → HasJournal command old.journal new.journal journal → ReadsInput command old.input new.input w
-    → IsAnswer command v journal w answer → HasAnswer command old new answer
-has_answer command old new v journal w answer reads sound has_journal reads_input answers =
-    let from = source_bytes (file_limit + 1) old.file.bytes new.file.bytes v reads in
-    let input = input_bytes command old.input new.input w reads_input in
-    record {
-      file = from.bytes;
-      journal = journal;
-      input = input.bytes;
-      file_read = record { read = from.has; sound = sound };
-      journal_read = has_journal;
-      input_read = input.has;
-      answers = IsAnswer-front command from.bytes journal input.bytes answer
-          (IsAnswer-input_front command (take (file_limit + 1) from.bytes) journal input.bytes answer
-          (subst (λ t. IsAnswer command t journal (take (file_limit + 1) input.bytes) answer) (sym from.front)
-          (subst (λ t. IsAnswer command v journal t answer) (sym input.start) answers)));
-    }
+-- each source was read
+pub has_read : (command : Command) (old new : SourcesView) (file : Text) (journal : Option Text) (input : Text) → Keeps (WasRead old.file new.file) file
+    → HasJournal command old.journal new.journal journal → Keeps (HasInput command old.input new.input) input → HasRead command old new (sources_of file journal input)
+has_read command old new file journal input keeps_file read_journal keeps_input = record {
+  bytes = sources_of keeps_file.bytes journal keeps_input.bytes;
+  hold = record { file = keeps_file.hold; journal = read_journal; input = keeps_input.hold };
+  kept_is = ap₂ (λ (f i : Text). sources_of f journal i) keeps_file.kept_is keeps_input.kept_is;
+}
 
 -- all was written
 pub Appends-whole : (before after : Option Text) (bytes : Text) → WritesPrefix before after bytes true → Appends before after bytes
 Appends-whole before after bytes w =
     let count_is : w.count ≡ length bytes = w.whole refl in
     subst (Appends before after) (take_all w.count bytes (omega (arith, count_is))) w.given
-
--- no call on the journal's tap failed, whether there is a journal or not
-pub held-sound : (is_there : Bool) (old new : TapView) → new.failed ≡ old.failed → has_any_failed (held is_there new) ≡ has_any_failed (held is_there old)
-held-sound true old new sound = sound
-held-sound false old new sound = refl

@@ -2,8 +2,9 @@
 use Rattle.bib_run.proofs.Words.{◌≡◌, ◌≢◌, ◌≤◌, ◌==◌, ℕ, Bool, true, false, List, [], length, bytes_eq, codes, Option, Some, None, option_map, replicate, inl, inr, refl, sym, ◌∙◌, ap, subst, arith, list_all, false≢true, none-some, same_Some, file_limit, Text, Reading, IsOpenable, IsReadFault}
 use Rattle.bib_run.proofs.Words.{no_reading, IsOpenFault, KeptSteps, AddMany, Request, Additions, AreAdditions, SessionFault, Saved, Saves, SessionState, idle, Opens, IsOpened, HasTurned, one-opening, opened_is_sound, open_fault, Command, Answer, refusal_line, answer_of, IsCatAnswer, AnswersFile}
 use Rattle.bib_run.proofs.Words.{said_of, position_of, IsLintAnswer, error_line, IsUnopened, IsUnopenedAnswer, IsUnfit, OpensWith, judged_journal, bad_journal_line, fault_line, outcome_after, AnswersSession, AnswersInput, HasEdited, HasEditedBy, HasEditedByWords, IsEditAnswer, IsWordsAnswer}
-use Rattle.bib_run.proofs.Words.{edited_answer, stop_line, fault_message, HasAdded, HasImported, IsImportAnswer, IsTurnAnswer, IsLogAnswer, IsForgetAnswer, IsStoredAnswer, IsAnswerTo, first_word, key_words, shown}
-use Rattle.std.proofs.Common.{ap₂}
+use Rattle.bib_run.proofs.Words.{edited_answer, stop_line, fault_message, HasAdded, HasImported, IsImportAnswer, IsTurnAnswer, IsLogAnswer, IsForgetAnswer, first_word, key_words, shown}
+use Rattle.std.proofs.Common.{ap₂, if◌then◌else◌, IsSomeAnd}
+use Rattle.bib_spec.proofs.Names.{eq-true}
 use Rattle.bib_spec.specs.Bytes.{name_limit}
 use Rattle.bib_spec.specs.Reading.{Reads, HasReading, HasReadingWithin}
 use Rattle.bib_spec.specs.Texts.{too_long_at}
@@ -26,21 +27,18 @@ use Rattle.bib_journal.specs.OneResult.{IsGood}
 use Rattle.bib_journal.specs.Session.{started}
 use Rattle.bib_journal.proofs.Moves.{none_open}
 use Rattle.bib_journal.proofs.OneResult.{one-result, one_saved, one_does, one_refusal, not_both}
-use Rattle.bib_answers.specs.Check.{check_answer}
-use Rattle.bib_answers.specs.Show.{show_answer}
-use Rattle.bib_answers.specs.Cite.{cite_answer}
-use Rattle.bib_answers.specs.Labels.{labels_answer}
-use Rattle.bib_answers.specs.Names.{Spells, names_answer}
-use Rattle.bib_answers.specs.Json.{json_answer}
-use Rattle.bib_answers.specs.NewKeys.{newkeys_answer}
+use Rattle.bib_answers.specs.Names.{Spells, IsNamesAnswer, names_answer}
 use Rattle.bib_answers.specs.Lint.{lint_answer}
-use Rattle.bib_run.specs.Ris.{ris_answer}
 use Rattle.bib_run.specs.ImportAnswer.{import_fault_line, added_answer}
 use Rattle.bib_run.specs.Turns.{turned_line}
 use Rattle.bib_run.specs.Log.{log_text, journal_left}
-use Rattle.bib_run.specs.Answers.{key_word, template_word}
+use Rattle.bib_words.specs.declared.verbs.Question.TheVariants.{Check, Show, Cite, Labels, Json, NewKeys, Ris}
+use Rattle.bib_words.specs.declared.verbs.Verb.{Verb}
+use Rattle.bib_words.specs.declared.verbs.Verb.TheVariants.{Asks, Cat, Lint, Names, Explain, Edit, Import, Undo, Redo, Log, Forget}
+use Rattle.bib_words.specs.Verbs.{verb_of}
+use Rattle.bib_run.specs.Answers.{Answers, IsEditsAnswer, question_answer, key_word, template_word}
 use Rattle.bib_run.specs.OneAnswer.{one_answer}
-use Rattle.bib_run.proofs.StoredRuns.{not_unopened, not_unfit, not_refused_with, not_one, opened-is}
+use Rattle.bib_run.proofs.StoredRuns.{not_unopened, not_unfit, not_refused_with, opened-is}
 
 -- at most one answer has the property
 abbrev One : (Answer → Type 0) → Type 0
@@ -110,13 +108,10 @@ one_pattern bytes p q (Spells.spelled s is e) (Spells.misspelled none) = absurd 
 one_pattern bytes p q (Spells.misspelled none) (Spells.spelled t is e) = absurd (none t is e)
 one_pattern bytes p q (Spells.misspelled none) (Spells.misspelled none') = refl
 
--- what `names` answers
-abbrev OfNames : ℕ → Text → Text → Text → Answer → Type 0
-OfNames depth key template file answer = (p : Option Pattern) × Spells template p × AnswersFile (names_answer depth key p) file answer
-
-one_of_names : (depth : ℕ) (key template file : Text) → One (OfNames depth key template file)
-one_of_names depth key template file a b (p, spells, answers) (q, spells', answers') =
-    one_of_file (names_answer depth key q) file a b (subst (λ (o : Option Pattern). AnswersFile (names_answer depth key o) file a) (one_pattern template p q spells spells') answers) answers'
+one_names : (depth : ℕ) (key template file : Text) → One (IsNamesAnswer depth key template file)
+one_names depth key template file a b x y =
+    one_of_file (names_answer depth key y.pattern) file a b
+    (subst (λ (o : Option Pattern). AnswersFile (names_answer depth key o) file a) (one_pattern template x.pattern y.pattern x.spells y.spells) x.answers) y.answers
 
 -- ---- sessions
 
@@ -275,110 +270,75 @@ one_imported text s good x y (HasImported.unread fault told refuses is) (HasImpo
 
 -- ---- all commands
 
--- the one of two, by a test
-abbrev Either : Bool → Type 0 → Type 0 → Type 0
-Either true P Q = P
-Either false P Q = Q
+one_edits : (command : Command) (file : Text) (journal : Option Text) (input : Text) → One (IsEditsAnswer command file journal input)
+one_edits command file journal input a b (IsEditsAnswer.script alone is) (IsEditsAnswer.script alone' is') =
+    one_session command.new_journal (AnswersInput HasEditedBy input) file journal
+    (λ s good. one_input HasEditedBy input s (one_edited (said_of input).requests (stop_line (said_of input)) s good)) a b is is'
+one_edits command file journal input a b (IsEditsAnswer.script alone is) (IsEditsAnswer.words more is') = absurd (more alone)
+one_edits command file journal input a b (IsEditsAnswer.words more is) (IsEditsAnswer.script alone is') = absurd (more alone)
+one_edits command file journal input a b (IsEditsAnswer.words more is) (IsEditsAnswer.words more' is') =
+    one_session command.new_journal (HasEditedByWords (key_words command)) file journal (one_words (key_words command)) a b is is'
 
--- what `edit` answers, by a script or by words
-abbrev OfEdit : Command → Text → Option Text → Text → Answer → Type 0
-OfEdit command file journal input answer =
-    Either (length command.words == 1) (IsEditAnswer command.new_journal file journal input answer) (IsWordsAnswer command.new_journal (key_words command) file journal answer)
+one_of_verb : (verb : Verb) (command : Command) (file : Text) (journal : Option Text) (input : Text) → verb ≢ Explain → One (Answers verb command file journal input)
+one_of_verb (Asks question) command file journal input other = one_of_file (question_answer question command) file
+one_of_verb Cat command file journal input other = one_cat file
+one_of_verb Lint command file journal input other = one_lint (first_word command) file
+one_of_verb Names command file journal input other = one_names command.depth (key_word command) (template_word command) file
+one_of_verb Explain command file journal input other = absurd (other refl)
+one_of_verb Edit command file journal input other = one_edits command file journal input
+one_of_verb Import command file journal input other =
+    one_session command.new_journal (AnswersInput HasImported input) file journal (λ s good. one_input HasImported input s (one_imported input s good))
+one_of_verb Undo command file journal input other = one_turned (codes "undone") request.Undo command.n file journal
+one_of_verb Redo command file journal input other = one_turned (codes "redone") request.Redo command.n file journal
+one_of_verb Log command file journal input other = one_log file journal
+one_of_verb Forget command file journal input other = one_forget file
 
--- what a command of this name answers, which is not `explain`
-abbrev Chosen : Command → Text → Option Text → Text → Text → Answer → Type 0
-Chosen command file journal input name answer =
-    Either (bytes_eq name (codes "cat")) (IsCatAnswer file answer)
-    (Either (bytes_eq name (codes "check")) (AnswersFile check_answer file answer)
-    (Either (bytes_eq name (codes "show")) (AnswersFile (show_answer command.depth (key_word command)) file answer)
-    (Either (bytes_eq name (codes "cite")) (AnswersFile (cite_answer (key_words command) command.n) file answer)
-    (Either (bytes_eq name (codes "labels")) (AnswersFile (labels_answer command.depth (key_words command)) file answer)
-    (Either (bytes_eq name (codes "json")) (AnswersFile (json_answer command.depth (key_words command)) file answer)
-    (Either (bytes_eq name (codes "newkeys")) (AnswersFile (newkeys_answer command.depth) file answer)
-    (Either (bytes_eq name (codes "ris")) (AnswersFile (ris_answer command.dropped command.depth (key_words command)) file answer)
-    (Either (bytes_eq name (codes "names")) (OfNames command.depth (key_word command) (template_word command) file answer)
-    (Either (bytes_eq name (codes "lint")) (IsLintAnswer (first_word command) file answer)
-    (Either (bytes_eq name (codes "edit")) (OfEdit command file journal input answer)
-    (Either (bytes_eq name (codes "undo")) (IsTurnAnswer (codes "undone") request.Undo command.n file journal answer)
-    (Either (bytes_eq name (codes "redo")) (IsTurnAnswer (codes "redone") request.Redo command.n file journal answer)
-    (Either (bytes_eq name (codes "log")) (IsLogAnswer file journal answer)
-    (Either (bytes_eq name (codes "import")) (IsImportAnswer command.new_journal file journal input answer)
-    (IsForgetAnswer file answer)))))))))))))))
+one_of_some : (verb : Option Verb) (command : Command) (file : Text) (journal : Option Text) (input : Text) → verb ≢ Some Explain
+    → One (λ answer. IsSomeAnd verb (λ v. Answers v command file journal input answer))
+one_of_some None command file journal input other = λ a b is also. absurd is
+one_of_some (Some verb) command file journal input other = one_of_verb verb command file journal input (λ e. other (ap Some e))
 
-one_if : (b : Bool) (P Q : Answer → Type 0) → One P → One Q → One (λ a. Either b (P a) (Q a))
-one_if true P Q one other = one
-one_if false P Q one other = other
+-- ---- `explain`
 
-one_edit : (command : Command) (file : Text) (journal : Option Text) (input : Text) → One (OfEdit command file journal input)
-one_edit command file journal input =
-    one_if (length command.words == 1) _ _
-    (one_session command.new_journal (AnswersInput HasEditedBy input) file journal
-    (λ s good. one_input HasEditedBy input s (one_edited (said_of input).requests (stop_line (said_of input)) s good)))
-    (one_session command.new_journal (HasEditedByWords (key_words command)) file journal (one_words (key_words command)))
+abbrev is_explain : Option Verb → Bool
+is_explain (Some Explain) = true
+is_explain _ = false
 
-one_chosen : (command : Command) (file : Text) (journal : Option Text) (input name : Text) → One (Chosen command file journal input name)
-one_chosen command file journal input name =
-    one_if (bytes_eq name (codes "cat")) _ _ (one_cat file)
-    (one_if (bytes_eq name (codes "check")) _ _ (one_of_file check_answer file)
-    (one_if (bytes_eq name (codes "show")) _ _ (one_of_file (show_answer command.depth (key_word command)) file)
-    (one_if (bytes_eq name (codes "cite")) _ _ (one_of_file (cite_answer (key_words command) command.n) file)
-    (one_if (bytes_eq name (codes "labels")) _ _ (one_of_file (labels_answer command.depth (key_words command)) file)
-    (one_if (bytes_eq name (codes "json")) _ _ (one_of_file (json_answer command.depth (key_words command)) file)
-    (one_if (bytes_eq name (codes "newkeys")) _ _ (one_of_file (newkeys_answer command.depth) file)
-    (one_if (bytes_eq name (codes "ris")) _ _ (one_of_file (ris_answer command.dropped command.depth (key_words command)) file)
-    (one_if (bytes_eq name (codes "names")) _ _ (one_of_names command.depth (key_word command) (template_word command) file)
-    (one_if (bytes_eq name (codes "lint")) _ _ (one_lint (first_word command) file)
-    (one_if (bytes_eq name (codes "edit")) _ _ (one_edit command file journal input)
-    (one_if (bytes_eq name (codes "undo")) _ _ (one_turned (codes "undone") request.Undo command.n file journal)
-    (one_if (bytes_eq name (codes "redo")) _ _ (one_turned (codes "redone") request.Redo command.n file journal)
-    (one_if (bytes_eq name (codes "log")) _ _ (one_log file journal)
-    (one_if (bytes_eq name (codes "import")) _ _
-    (one_session command.new_journal (AnswersInput HasImported input) file journal (λ s good. one_input HasImported input s (one_imported input s good)))
-    (one_forget file)))))))))))))))
+-- if a name is that of `explain`, it is not the name of the command before
+skip : (here : Bool) (verb : Verb) (rest : Option Verb) → is_explain (Some verb) ≡ false → (if here then Some verb else rest) ≡ Some Explain → rest ≡ Some Explain
+skip true verb rest other is = absurd (false≢true (sym other ∙ ap is_explain is))
+skip false verb rest other is = is
 
-named : (command : Command) (file : Text) (journal : Option Text) (input name : Text) (answer : Answer) → command.name ≡ name → Chosen command file journal input name answer
-    → Chosen command file journal input command.name answer
-named command file journal input name answer e is = subst (λ (n : Text). Chosen command file journal input n answer) (sym e) is
+last : (here : Bool) → (if here then Some Explain else None) ≡ Some Explain → here ≡ true
+last true is = refl
+last false is = absurd (none-some Explain is)
 
-chosen_of : (command : Command) (file : Text) (journal : Option Text) (input : Text) (answer : Answer) (answers : Reading → Answer) → IsAnswerTo command answers → AnswersFile answers file answer
-    → Chosen command file journal input command.name answer
-chosen_of command file journal input answer answers (IsAnswerTo.check e) is = named command file journal input (codes "check") answer e is
-chosen_of command file journal input answer answers (IsAnswerTo.show e) is = named command file journal input (codes "show") answer e is
-chosen_of command file journal input answer answers (IsAnswerTo.cite e) is = named command file journal input (codes "cite") answer e is
-chosen_of command file journal input answer answers (IsAnswerTo.labels e) is = named command file journal input (codes "labels") answer e is
-chosen_of command file journal input answer answers (IsAnswerTo.json e) is = named command file journal input (codes "json") answer e is
-chosen_of command file journal input answer answers (IsAnswerTo.newkeys e) is = named command file journal input (codes "newkeys") answer e is
-chosen_of command file journal input answer answers (IsAnswerTo.ris e) is = named command file journal input (codes "ris") answer e is
-chosen_of command file journal input answer answers (IsAnswerTo.names e p spells) is = named command file journal input (codes "names") answer e (p, spells, is)
-
-of_edit : (command : Command) (file : Text) (journal : Option Text) (input : Text) (answer : Answer) (b : Bool) → (length command.words == 1) ≡ b
-    → Either b (IsEditAnswer command.new_journal file journal input answer) (IsWordsAnswer command.new_journal (key_words command) file journal answer) → OfEdit command file journal input answer
-of_edit command file journal input answer b e is =
-    subst
-    (λ (b : Bool). Either b (IsEditAnswer command.new_journal file journal input answer) (IsWordsAnswer command.new_journal (key_words command) file journal answer))
-    (sym e)
-    is
-
-chosen : (command : Command) (file : Text) (journal : Option Text) (input : Text) (answer : Answer) → command.name ≢ codes "explain" → IsStoredAnswer command file journal input answer
-    → Chosen command file journal input command.name answer
-chosen command file journal input answer other (IsStoredAnswer.cat e is) = named command file journal input (codes "cat") answer e is
-chosen command file journal input answer other (IsStoredAnswer.of_reading answers to is) = chosen_of command file journal input answer answers to is
-chosen command file journal input answer other (IsStoredAnswer.lint e is) = named command file journal input (codes "lint") answer e is
-chosen command file journal input answer other (IsStoredAnswer.explain e is) = absurd (other e)
-chosen command file journal input answer other (IsStoredAnswer.edit e lone is) =
-    named command file journal input (codes "edit") answer e (of_edit command file journal input answer true (ap (λ n. n == 1) lone) is)
-chosen command file journal input answer other (IsStoredAnswer.edit_words e more is) =
-    named command file journal input (codes "edit") answer e (of_edit command file journal input answer false (not_one (length command.words) more) is)
-chosen command file journal input answer other (IsStoredAnswer.undo e is) = named command file journal input (codes "undo") answer e is
-chosen command file journal input answer other (IsStoredAnswer.redo e is) = named command file journal input (codes "redo") answer e is
-chosen command file journal input answer other (IsStoredAnswer.log e is) = named command file journal input (codes "log") answer e is
-chosen command file journal input answer other (IsStoredAnswer.import e is) = named command file journal input (codes "import") answer e is
-chosen command file journal input answer other (IsStoredAnswer.forget e is) = named command file journal input (codes "forget") answer e is
+-- only the name of `explain` names that command
+explain_named : (name : Text) → verb_of name ≡ Some Explain → name ≡ codes "explain"
+explain_named name is =
+    eq-true name (codes "explain")
+    (last (bytes_eq name (codes "explain"))
+    (skip (bytes_eq name (codes "import")) Import _ refl
+    (skip (bytes_eq name (codes "ris")) (Asks Ris) _ refl
+    (skip (bytes_eq name (codes "forget")) Forget _ refl
+    (skip (bytes_eq name (codes "log")) Log _ refl
+    (skip (bytes_eq name (codes "redo")) Redo _ refl
+    (skip (bytes_eq name (codes "undo")) Undo _ refl
+    (skip (bytes_eq name (codes "edit")) Edit _ refl
+    (skip (bytes_eq name (codes "newkeys")) (Asks NewKeys) _ refl
+    (skip (bytes_eq name (codes "names")) Names _ refl
+    (skip (bytes_eq name (codes "json")) (Asks Json) _ refl
+    (skip (bytes_eq name (codes "labels")) (Asks Labels) _ refl
+    (skip (bytes_eq name (codes "cite")) (Asks Cite) _ refl
+    (skip (bytes_eq name (codes "show")) (Asks Show) _ refl
+    (skip (bytes_eq name (codes "lint")) Lint _ refl
+    (skip (bytes_eq name (codes "check")) (Asks Check) _ refl
+    (skip (bytes_eq name (codes "cat")) Cat _ refl
+    is)))))))))))))))))
 
 pub one-answer : one_answer
 one-answer command file journal input a b other is also =
     is.shown
     ∙ ap (shown command.print)
-    (one_chosen command file journal input command.name is.stored also.stored (chosen command file journal input is.stored other is.answers)
-    (chosen command file journal input also.stored other also.answers))
+    (one_of_some (verb_of command.name) command file journal input (λ e. other (explain_named command.name e)) is.stored also.stored is.answers also.answers)
     ∙ sym also.shown

@@ -2,8 +2,8 @@
 use Rattle.bib_run.proofs.Words.{◌≡◌, ◌≢◌, ℕ, Bool, true, false, ◌==◌, List, [], ◌++◌, length, take, replicate, bytes_eq, codes, Option, Some, None, option_map, inl, inr, refl, sym, ◌∙◌, ap, subst, arith, list_all, false≢true, none-some, same_Some, Text, Reading, IsOpenable, ReadFault, IsOpenFault}
 use Rattle.bib_run.proofs.Words.{KeptSteps, AddMany, Request, SessionFault, Unopened, BadJournal, JournalMismatch, Saved, Saves, SessionState, idle, Opens, IsOpened, RefusesOpen, Performs, HasTurned, one-opening, opened_is_sound, open_fault, Additions, Said, said_of, asked_by_words, Command, Answer}
 use Rattle.bib_run.proofs.Words.{IsUnopened, IsUnfit, OpensWith, judged_journal, bad_journal_line, mismatch_line, fault_line, outcome_after, AnswersSession, AnswersInput, HasEdited, HasEditedBy, HasEditedByWords, IsEditAnswer, IsWordsAnswer, changes_of, stop_line, fault_message, HasAdded}
-use Rattle.bib_run.proofs.Words.{HasImported, IsImportAnswer, IsTurnAnswer, IsLogAnswer, IsStoredAnswer, IsAnswerTo, key_words, shown}
-use Rattle.std.proofs.Common.{suc, ◌||◌, ◌&&◌, if◌then◌else◌, ◌∷◌, unwrap_or, ◌⊎◌, ⊎_elim, eqb-true}
+use Rattle.bib_run.proofs.Words.{HasImported, IsImportAnswer, IsTurnAnswer, IsLogAnswer, key_words, shown}
+use Rattle.std.proofs.Common.{suc, ◌&&◌, if◌then◌else◌, IsSomeAnd, ◌∷◌, unwrap_or, ◌⊎◌, ⊎_elim, eqb-true}
 use Rattle.std.specs.Option.{option_map_or}
 use Rattle.std.proofs.lemmas.Bool.{cases_Bool, cond-true, cond-false, and_parts}
 use Rattle.std.proofs.lemmas.List.Folds.{list_all-append}
@@ -25,35 +25,12 @@ use Rattle.bib_journal.proofs.SavedLoads.{open_refused}
 use Rattle.bib_script.specs.Parting.{words_of, lines_of}
 use Rattle.bib_script.specs.Script.{said_by, said_first, nothing_said, request_of, edit_of, group_of, end_of}
 use Rattle.bib_script.specs.Words.{step_of, label_of_words}
+use Rattle.bib_words.specs.declared.verbs.Verb.{Verb}
+use Rattle.bib_words.specs.declared.verbs.Verb.TheVariants as verbs
+use Rattle.bib_words.specs.Verbs.{verb_of, reads_journal}
 use Rattle.bib_run.specs.EditAnswer.{edits_in}
-use Rattle.bib_run.specs.StoredRuns.{edits_asked, stored, OpensSession, Asks, Accepts, a_run_is_a_session, Call, AreAccepted, runs_of_the_program_are_one_session, one_undo_leads_to_the_first_file, one_redo_leads_to_the_last_file, renames, runs_of_renamings_keep_every_record}
-
--- ---- names
-
--- the names of the commands whose runs are sessions
-abbrev reads_name : Text → Bool
-reads_name name = (((bytes_eq name (codes "edit") || bytes_eq name (codes "undo")) || bytes_eq name (codes "redo")) || bytes_eq name (codes "log")) || bytes_eq name (codes "import")
-
-reader-named : (command : Command) → OpensSession command → reads_name command.name ≡ true
-reader-named command (OpensSession.edit e) = ap reads_name e
-reader-named command (OpensSession.undo e) = ap reads_name e
-reader-named command (OpensSession.redo e) = ap reads_name e
-reader-named command (OpensSession.log e) = ap reads_name e
-reader-named command (OpensSession.import e) = ap reads_name e
-
--- no run of a command of another name is a session
-no_reader : (command : Command) (name : Text) → OpensSession command → command.name ≡ name → reads_name name ≡ false → ⊥
-no_reader command name reads e other = false≢true (sym other ∙ ap reads_name (sym e) ∙ reader-named command reads)
-
-of_other : (command : Command) (answers : Reading → Answer) → OpensSession command → IsAnswerTo command answers → ⊥
-of_other command answers reads (IsAnswerTo.check e) = no_reader command (codes "check") reads e refl
-of_other command answers reads (IsAnswerTo.show e) = no_reader command (codes "show") reads e refl
-of_other command answers reads (IsAnswerTo.cite e) = no_reader command (codes "cite") reads e refl
-of_other command answers reads (IsAnswerTo.labels e) = no_reader command (codes "labels") reads e refl
-of_other command answers reads (IsAnswerTo.json e) = no_reader command (codes "json") reads e refl
-of_other command answers reads (IsAnswerTo.newkeys e) = no_reader command (codes "newkeys") reads e refl
-of_other command answers reads (IsAnswerTo.ris e) = no_reader command (codes "ris") reads e refl
-of_other command answers reads (IsAnswerTo.names e pattern spells) = no_reader command (codes "names") reads e refl
+use Rattle.bib_run.specs.Answers.{Answers, IsEditsAnswer}
+use Rattle.bib_run.specs.StoredRuns.{edits_asked, stored, OpensSession, AsksEdits, AsksAdditions, Requests, Asks, Accepts, a_run_is_a_session, Call, AreAccepted, runs_of_the_program_are_one_session, one_undo_leads_to_the_first_file, one_redo_leads_to_the_last_file, renames, runs_of_renamings_keep_every_record}
 
 -- ---- scripts
 
@@ -252,8 +229,13 @@ opened-with new_journal file journal kept opened opens (OpensWith.begun text ask
 fits : (new_journal : Bool) (file : Text) (journal : Option Text) (kept : KeptSteps) → Opens file journal kept → OpensWith new_journal file journal (idle kept)
 fits new_journal file journal kept opens = OpensWith.fitting (record { opens = opens; closed = refl })
 
+-- requests of a command with this verb
+asked : (verb : Verb) (command : Command) (present input : Text) (requests : List Request) → verb_of command.name ≡ Some verb → Requests verb command present input requests
+    → Asks command present input requests
+asked verb command present input requests named asks = subst (λ (v : Option Verb). IsSomeAnd v (λ w. Requests w command present input requests)) (sym named) asks
+
 -- another number than 1
-pub not_one : (n : ℕ) → n ≢ 1 → (n == 1) ≡ false
+not_one : (n : ℕ) → n ≢ 1 → (n == 1) ≡ false
 not_one n other =
     ⊎_elim
     (λ (h : (n == 1) ≡ true). absurd (other (eqb-true n 1 h)))
@@ -261,18 +243,19 @@ not_one n other =
     (cases_Bool (n == 1))
 
 -- the requests of a script
-script_asks : (command : Command) (present input : Text) → command.name ≡ codes "edit" → length command.words ≡ 1 → Asks command present input (said_of input).requests
+script_asks : (command : Command) (present input : Text) → verb_of command.name ≡ Some verbs.Edit → length command.words ≡ 1 → Asks command present input (said_of input).requests
 script_asks command present input named lone =
     let is : edits_asked command input ≡ (said_of input).requests = cond-true (length command.words == 1) (said_of input).requests (unwrap_or (asked_by_words (key_words command)) []) (ap (λ n. n == 1) lone) in
-    subst (λ (rs : List Request). Asks command present input rs) is (Asks.edits named)
+    asked verbs.Edit command present input (said_of input).requests named (subst (λ (rs : List Request). AsksEdits command input rs) is AsksEdits.edits)
 
 -- the requests of words
-words_ask : (command : Command) (present input : Text) (asked : Option (List Request)) → command.name ≡ codes "edit" → length command.words ≢ 1
-    → asked_by_words (key_words command) ≡ asked → Asks command present input (unwrap_or asked [])
-words_ask command present input asked named more said =
+words_ask : (command : Command) (present input : Text) (asked_for : Option (List Request)) → verb_of command.name ≡ Some verbs.Edit → length command.words ≢ 1
+    → asked_by_words (key_words command) ≡ asked_for → Asks command present input (unwrap_or asked_for [])
+words_ask command present input asked_for named more said =
     let other = not_one (length command.words) more in
     let is : edits_asked command input ≡ unwrap_or (asked_by_words (key_words command)) [] = cond-false (length command.words == 1) (said_of input).requests (unwrap_or (asked_by_words (key_words command)) []) other in
-    subst (λ (rs : List Request). Asks command present input rs) (is ∙ ap (λ (o : Option (List Request)). unwrap_or o []) said) (Asks.edits named)
+    asked verbs.Edit command present input (unwrap_or asked_for []) named
+    (subst (λ (rs : List Request). AsksEdits command input rs) (is ∙ ap (λ (o : Option (List Request)). unwrap_or o []) said) AsksEdits.edits)
 
 -- requests are done in order, and what they leave is stored
 edited_run : (command : Command) (input : Text) (kept : KeptSteps) (old new : OnDisk) (answer : Answer) (requests : List Request) (message : ℕ → Option SessionFault → Option Text)
@@ -284,17 +267,17 @@ edited_run command input kept old new answer requests message opens asks scripte
     (λ none. no_edit_changes (take has.done requests) (idle kept) has.closed (some-pass is_scripted has.done requests scripted) none has.performs.did)
     (stores ∙ ap (λ (a : Answer). stored old a.outcome) has.answered)
 
-edit_run : (command : Command) (input : Text) (kept : KeptSteps) (old new : OnDisk) (answer : Answer) → Opens old.file old.journal kept → command.name ≡ codes "edit"
+edit_run : (command : Command) (input : Text) (kept : KeptSteps) (old new : OnDisk) (answer : Answer) → Opens old.file old.journal kept → verb_of command.name ≡ Some verbs.Edit
     → length command.words ≡ 1 → IsEditAnswer command.new_journal old.file old.journal input answer → new ≡ stored old answer.outcome → IsSession command input kept new
 edit_run command input kept old new answer opens named lone (AnswersSession.answered opened with (AnswersInput.within short has)) stores =
     edited_run command input kept old new answer (said_of input).requests (stop_line (said_of input)) opens (script_asks command kept.present input named lone) (lines_scripted 1 (lines_of input))
     (subst (λ (s : SessionState). HasEditedBy input s answer) (opened-with command.new_journal old.file old.journal kept opened opens with) has) stores
 edit_run command input kept old new answer opens named lone (AnswersSession.answered opened with (AnswersInput.too_long far told)) stores =
-    asks_nothing command input kept old new (Asks.long_script named far) opens (stores ∙ ap (λ (a : Answer). stored old a.outcome) told)
+    asks_nothing command input kept old new (asked verbs.Edit command kept.present input [] named (AsksEdits.too_long far)) opens (stores ∙ ap (λ (a : Answer). stored old a.outcome) told)
 edit_run command input kept old new answer opens named lone (AnswersSession.unopened is) stores =
     absurd (not_refused_with command.new_journal old.file old.journal (idle kept) is.message (fits command.new_journal old.file old.journal kept opens) is.why)
 
-words_run : (command : Command) (input : Text) (kept : KeptSteps) (old new : OnDisk) (answer : Answer) → Opens old.file old.journal kept → command.name ≡ codes "edit"
+words_run : (command : Command) (input : Text) (kept : KeptSteps) (old new : OnDisk) (answer : Answer) → Opens old.file old.journal kept → verb_of command.name ≡ Some verbs.Edit
     → length command.words ≢ 1 → IsWordsAnswer command.new_journal (key_words command) old.file old.journal answer → new ≡ stored old answer.outcome → IsSession command input kept new
 words_run command input kept old new answer opens named more (AnswersSession.answered opened with (HasEditedByWords.said requests said has)) stores =
     edited_run command input kept old new answer requests fault_message opens (words_ask command kept.present input (Some requests) named more said) (words_scripted (key_words command) requests said)
@@ -326,50 +309,57 @@ added_run command input kept old new answer a opens asks (HasAdded.refused fault
     as_session command input kept new (request.Edit (AddMany a.entries) ∷ []) 0 (Some fault) (idle kept) asks (λ e. told (same_Some fault Memory e))
     (record { within = omega arith; did = refl; stops = refuses }) (same_disk kept old new (stores ∙ ap (λ (x : Answer). stored old x.outcome) is) opens)
 
-read_run : (command : Command) (input : Text) (kept : KeptSteps) (old new : OnDisk) (answer : Answer) → Opens old.file old.journal kept → command.name ≡ codes "import"
+read_run : (command : Command) (input : Text) (kept : KeptSteps) (old new : OnDisk) (answer : Answer) → Opens old.file old.journal kept → verb_of command.name ≡ Some verbs.Import
     → HasImported input (idle kept) answer → new ≡ stored old answer.outcome → IsSession command input kept new
 read_run command input kept old new answer opens named (HasImported.read a adds has) stores =
-    added_run command input kept old new answer a opens (Asks.addition named a adds) has stores
+    added_run command input kept old new answer a opens (asked verbs.Import command kept.present input (request.Edit (AddMany a.entries) ∷ []) named (AsksAdditions.addition a adds)) has stores
 read_run command input kept old new answer opens named (HasImported.unread fault told refuses is) stores =
-    asks_nothing command input kept old new (Asks.no_text named fault told refuses) opens (stores ∙ ap (λ (a : Answer). stored old a.outcome) is)
+    asks_nothing command input kept old new (asked verbs.Import command kept.present input [] named (AsksAdditions.no_text fault told refuses)) opens (stores ∙ ap (λ (a : Answer). stored old a.outcome) is)
 
-import_run : (command : Command) (input : Text) (kept : KeptSteps) (old new : OnDisk) (answer : Answer) → Opens old.file old.journal kept → command.name ≡ codes "import"
+import_run : (command : Command) (input : Text) (kept : KeptSteps) (old new : OnDisk) (answer : Answer) → Opens old.file old.journal kept → verb_of command.name ≡ Some verbs.Import
     → IsImportAnswer command.new_journal old.file old.journal input answer → new ≡ stored old answer.outcome → IsSession command input kept new
 import_run command input kept old new answer opens named (AnswersSession.answered opened with (AnswersInput.within short has)) stores =
     read_run command input kept old new answer opens named
     (subst (λ (s : SessionState). HasImported input s answer) (opened-with command.new_journal old.file old.journal kept opened opens with) has) stores
 import_run command input kept old new answer opens named (AnswersSession.answered opened with (AnswersInput.too_long far told)) stores =
-    asks_nothing command input kept old new (Asks.long_text named far) opens (stores ∙ ap (λ (a : Answer). stored old a.outcome) told)
+    asks_nothing command input kept old new (asked verbs.Import command kept.present input [] named (AsksAdditions.too_long far)) opens (stores ∙ ap (λ (a : Answer). stored old a.outcome) told)
 import_run command input kept old new answer opens named (AnswersSession.unopened is) stores =
     absurd (not_refused_with command.new_journal old.file old.journal (idle kept) is.message (fits command.new_journal old.file old.journal kept opens) is.why)
 
-log_run : (command : Command) (input : Text) (kept : KeptSteps) (old new : OnDisk) (answer : Answer) → Opens old.file old.journal kept → command.name ≡ codes "log"
+log_run : (command : Command) (input : Text) (kept : KeptSteps) (old new : OnDisk) (answer : Answer) → Opens old.file old.journal kept → verb_of command.name ≡ Some verbs.Log
     → IsLogAnswer old.file old.journal answer → new ≡ stored old answer.outcome → IsSession command input kept new
 log_run command input kept old new answer opens named (IsLogAnswer.listed opened is told) stores =
-    asks_nothing command input kept old new (Asks.nothing named) opens (stores ∙ ap (λ (a : Answer). stored old a.outcome) told)
+    asks_nothing command input kept old new (asked verbs.Log command kept.present input [] named refl) opens (stores ∙ ap (λ (a : Answer). stored old a.outcome) told)
 log_run command input kept old new answer opens named (IsLogAnswer.unopened is) stores =
     absurd (not_unopened old.file old.journal kept is.message opens is.why)
 
-answered_run : (command : Command) (input : Text) (kept : KeptSteps) (old new : OnDisk) (answer : Answer) → OpensSession command → Opens old.file old.journal kept
-    → IsStoredAnswer command old.file old.journal input answer → new ≡ stored old answer.outcome → IsSession command input kept new
-answered_run command input kept old new answer reads opens (IsStoredAnswer.cat e a) stores = absurd (no_reader command (codes "cat") reads e refl)
-answered_run command input kept old new answer reads opens (IsStoredAnswer.of_reading answers to a) stores = absurd (of_other command answers reads to)
-answered_run command input kept old new answer reads opens (IsStoredAnswer.lint e a) stores = absurd (no_reader command (codes "lint") reads e refl)
-answered_run command input kept old new answer reads opens (IsStoredAnswer.explain e a) stores = absurd (no_reader command (codes "explain") reads e refl)
-answered_run command input kept old new answer reads opens (IsStoredAnswer.edit e lone a) stores = edit_run command input kept old new answer opens e lone a stores
-answered_run command input kept old new answer reads opens (IsStoredAnswer.edit_words e more a) stores = words_run command input kept old new answer opens e more a stores
-answered_run command input kept old new answer reads opens (IsStoredAnswer.undo e a) stores =
-    turn_run command input kept old new answer (codes "undone") request.Undo opens (Asks.undos e) a stores
-answered_run command input kept old new answer reads opens (IsStoredAnswer.redo e a) stores =
-    turn_run command input kept old new answer (codes "redone") request.Redo opens (Asks.redos e) a stores
-answered_run command input kept old new answer reads opens (IsStoredAnswer.log e a) stores = log_run command input kept old new answer opens e a stores
-answered_run command input kept old new answer reads opens (IsStoredAnswer.import e a) stores = import_run command input kept old new answer opens e a stores
-answered_run command input kept old new answer reads opens (IsStoredAnswer.forget e a) stores = absurd (no_reader command (codes "forget") reads e refl)
+edits_run : (command : Command) (input : Text) (kept : KeptSteps) (old new : OnDisk) (answer : Answer) → Opens old.file old.journal kept → verb_of command.name ≡ Some verbs.Edit
+    → IsEditsAnswer command old.file old.journal input answer → new ≡ stored old answer.outcome → IsSession command input kept new
+edits_run command input kept old new answer opens named (IsEditsAnswer.script lone is) stores = edit_run command input kept old new answer opens named lone is stores
+edits_run command input kept old new answer opens named (IsEditsAnswer.words more is) stores = words_run command input kept old new answer opens named more is stores
+
+answered_run : (verb : Option Verb) (command : Command) (input : Text) (kept : KeptSteps) (old new : OnDisk) (answer : Answer) → verb_of command.name ≡ verb
+    → IsSomeAnd verb (λ v. reads_journal v ≡ true) → Opens old.file old.journal kept → IsSomeAnd verb (λ v. Answers v command old.file old.journal input answer)
+    → new ≡ stored old answer.outcome → IsSession command input kept new
+answered_run None command input kept old new answer named reads opens is stores = absurd reads
+answered_run (Some (verbs.Asks question)) command input kept old new answer named reads opens is stores = absurd (false≢true reads)
+answered_run (Some verbs.Cat) command input kept old new answer named reads opens is stores = absurd (false≢true reads)
+answered_run (Some verbs.Lint) command input kept old new answer named reads opens is stores = absurd (false≢true reads)
+answered_run (Some verbs.Names) command input kept old new answer named reads opens is stores = absurd (false≢true reads)
+answered_run (Some verbs.Explain) command input kept old new answer named reads opens is stores = absurd (false≢true reads)
+answered_run (Some verbs.Forget) command input kept old new answer named reads opens is stores = absurd (false≢true reads)
+answered_run (Some verbs.Edit) command input kept old new answer named reads opens is stores = edits_run command input kept old new answer opens named is stores
+answered_run (Some verbs.Import) command input kept old new answer named reads opens is stores = import_run command input kept old new answer opens named is stores
+answered_run (Some verbs.Undo) command input kept old new answer named reads opens is stores =
+    turn_run command input kept old new answer (codes "undone") request.Undo opens (asked verbs.Undo command kept.present input (replicate command.n request.Undo) named refl) is stores
+answered_run (Some verbs.Redo) command input kept old new answer named reads opens is stores =
+    turn_run command input kept old new answer (codes "redone") request.Redo opens (asked verbs.Redo command kept.present input (replicate command.n request.Redo) named refl) is stores
+answered_run (Some verbs.Log) command input kept old new answer named reads opens is stores = log_run command input kept old new answer opens named is stores
 
 pub a-run-is-a-session : a_run_is_a_session
 a-run-is-a-session command input kept old new reads opens run =
     let same : run.answer ≡ run.answers.stored = run.answers.shown ∙ ap (λ (b : Bool). shown b run.answers.stored) run.kept in
-    answered_run command input kept old new run.answers.stored reads opens run.answers.answers (run.stores ∙ ap (λ (a : Answer). stored old a.outcome) same)
+    answered_run (verb_of command.name) command input kept old new run.answers.stored refl reads opens run.answers.answers (run.stores ∙ ap (λ (a : Answer). stored old a.outcome) same)
 
 -- ---- runs one after another
 
@@ -388,38 +378,23 @@ runs-are-one-session (call ∷ calls) kept old new opens runs =
 
 -- ---- the first file, and the last
 
--- a command has one name
-two_names : (command : Command) (a b : Text) → command.name ≡ a → command.name ≡ b → bytes_eq a b ≡ false → bytes_eq a a ≡ true → ⊥
-two_names command a b e e' other same = false≢true (sym other ∙ ap (bytes_eq a) (sym e' ∙ e) ∙ same)
+-- the requests of a command with this name
+asked_by : (name : Text) (command : Command) (present input : Text) (requests : List Request) → command.name ≡ name → Asks command present input requests
+    → IsSomeAnd (verb_of name) (λ verb. Requests verb command present input requests)
+asked_by name command present input requests named asks = subst (λ (n : Text). IsSomeAnd (verb_of n) (λ verb. Requests verb command present input requests)) named asks
 
-undos_asked : (command : Command) (present input : Text) (requests : List Request) → command.name ≡ codes "undo" → Asks command present input requests → requests ≡ replicate command.n request.Undo
-undos_asked command present input requests named (Asks.undos e) = refl
-undos_asked command present input requests named (Asks.edits e) = absurd (two_names command (codes "undo") (codes "edit") named e refl refl)
-undos_asked command present input requests named (Asks.redos e) = absurd (two_names command (codes "undo") (codes "redo") named e refl refl)
-undos_asked command present input requests named (Asks.addition e a adds) = absurd (two_names command (codes "undo") (codes "import") named e refl refl)
-undos_asked command present input requests named (Asks.no_text e fault told refuses) = absurd (two_names command (codes "undo") (codes "import") named e refl refl)
-undos_asked command present input requests named (Asks.long_script e far) = absurd (two_names command (codes "undo") (codes "edit") named e refl refl)
-undos_asked command present input requests named (Asks.long_text e far) = absurd (two_names command (codes "undo") (codes "import") named e refl refl)
-undos_asked command present input requests named (Asks.nothing e) = absurd (two_names command (codes "undo") (codes "log") named e refl refl)
-
-redos_asked : (command : Command) (present input : Text) (requests : List Request) → command.name ≡ codes "redo" → Asks command present input requests → requests ≡ replicate command.n request.Redo
-redos_asked command present input requests named (Asks.redos e) = refl
-redos_asked command present input requests named (Asks.edits e) = absurd (two_names command (codes "redo") (codes "edit") named e refl refl)
-redos_asked command present input requests named (Asks.undos e) = absurd (two_names command (codes "redo") (codes "undo") named e refl refl)
-redos_asked command present input requests named (Asks.addition e a adds) = absurd (two_names command (codes "redo") (codes "import") named e refl refl)
-redos_asked command present input requests named (Asks.no_text e fault told refuses) = absurd (two_names command (codes "redo") (codes "import") named e refl refl)
-redos_asked command present input requests named (Asks.long_script e far) = absurd (two_names command (codes "redo") (codes "edit") named e refl refl)
-redos_asked command present input requests named (Asks.long_text e far) = absurd (two_names command (codes "redo") (codes "import") named e refl refl)
-redos_asked command present input requests named (Asks.nothing e) = absurd (two_names command (codes "redo") (codes "log") named e refl refl)
+-- a run of a command with this name is a session
+opens_session : (name : Text) (command : Command) → command.name ≡ name → IsSomeAnd (verb_of name) (λ verb. reads_journal verb ≡ true) → OpensSession command
+opens_session name command named reads = subst (λ (n : Text). IsSomeAnd (verb_of n) (λ verb. reads_journal verb ≡ true)) (sym named) reads
 
 pub one-undo-leads-to-the-first-file : one_undo_leads_to_the_first_file
 one-undo-leads-to-the-first-file calls undo input first kept old mid new begins runs opens named enough run =
     let before = runs-are-one-session calls first old mid begins runs in
     let same : before.1.closed ≡ kept = one-opening mid.file mid.journal before.1.closed kept before.1.opens opens in
-    let this : IsSession undo input kept new = a-run-is-a-session undo input kept mid new (OpensSession.undo named) opens run in
+    let this : IsSession undo input kept new = a-run-is-a-session undo input kept mid new (opens_session (codes "undo") undo named refl) opens run in
     let accepts = this.2 in
     let performs : Performs (replicate undo.n request.Undo) accepts.done accepts.fault (idle kept) accepts.reached =
-    subst (λ (rs : List Request). Performs rs accepts.done accepts.fault (idle kept) accepts.reached) (undos_asked undo kept.present input accepts.requests named accepts.asks) accepts.performs in
+    subst (λ (rs : List Request). Performs rs accepts.done accepts.fault (idle kept) accepts.reached) (asked_by (codes "undo") undo kept.present input accepts.requests named accepts.asks) accepts.performs in
     sym (opened_present new.file new.journal this.1.closed this.1.opens)
     ∙ ap (λ (k : KeptSteps). k.present) accepts.kept
     ∙ (undone_all undo.n accepts.done accepts.fault kept accepts.reached enough accepts.told performs).1
@@ -428,10 +403,10 @@ one-undo-leads-to-the-first-file calls undo input first kept old mid new begins 
 
 pub one-redo-leads-to-the-last-file : one_redo_leads_to_the_last_file
 one-redo-leads-to-the-last-file redo input kept mid new opens named enough run =
-    let this : IsSession redo input kept new = a-run-is-a-session redo input kept mid new (OpensSession.redo named) opens run in
+    let this : IsSession redo input kept new = a-run-is-a-session redo input kept mid new (opens_session (codes "redo") redo named refl) opens run in
     let accepts = this.2 in
     let performs : Performs (replicate redo.n request.Redo) accepts.done accepts.fault (idle kept) accepts.reached =
-    subst (λ (rs : List Request). Performs rs accepts.done accepts.fault (idle kept) accepts.reached) (redos_asked redo kept.present input accepts.requests named accepts.asks) accepts.performs in
+    subst (λ (rs : List Request). Performs rs accepts.done accepts.fault (idle kept) accepts.reached) (asked_by (codes "redo") redo kept.present input accepts.requests named accepts.asks) accepts.performs in
     sym (opened_present new.file new.journal this.1.closed this.1.opens)
     ∙ ap (λ (k : KeptSteps). k.present) accepts.kept
     ∙ (redone_all redo.n accepts.done accepts.fault kept accepts.reached enough accepts.told performs).1
@@ -451,16 +426,9 @@ ended_rename requests all = by_end (leaves_open false requests)
     by_end true = both_rename requests (request.End ∷ []) all refl
     by_end false = all
 
-edits_rename : (command : Command) (present input : Text) (requests : List Request) → command.name ≡ codes "edit" → AllRename (edits_asked command input) → Asks command present input requests
-    → AllRename requests
-edits_rename command present input requests named all (Asks.edits e) = all
-edits_rename command present input requests named all (Asks.undos e) = absurd (two_names command (codes "edit") (codes "undo") named e refl refl)
-edits_rename command present input requests named all (Asks.redos e) = absurd (two_names command (codes "edit") (codes "redo") named e refl refl)
-edits_rename command present input requests named all (Asks.addition e a adds) = absurd (two_names command (codes "edit") (codes "import") named e refl refl)
-edits_rename command present input requests named all (Asks.no_text e fault told refuses) = refl
-edits_rename command present input requests named all (Asks.long_script e far) = refl
-edits_rename command present input requests named all (Asks.long_text e far) = refl
-edits_rename command present input requests named all (Asks.nothing e) = refl
+edits_rename : (command : Command) (input : Text) (requests : List Request) → AllRename (edits_asked command input) → AsksEdits command input requests → AllRename requests
+edits_rename command input requests all AsksEdits.edits = all
+edits_rename command input requests all (AsksEdits.too_long far) = refl
 
 accepted_rename : (calls : List Call) (accepted : List (List Request)) (old new : KeptSteps) → list_all renames calls ≡ true → AreAccepted calls accepted old new
     → AllRename (requests_of accepted)
@@ -471,7 +439,8 @@ accepted_rename (call ∷ calls) (requests ∷ others) old new all are =
     let both = and_parts (renames call) (list_all renames calls) all in
     let this = and_parts (bytes_eq call.command.name (codes "edit")) (list_all is_renaming (edits_asked call.command call.input)) both.0 in
     let named : call.command.name ≡ codes "edit" = eq-true call.command.name (codes "edit") this.0 in
-    let asked : AllRename are.1.requests = edits_rename call.command old.present call.input are.1.requests named this.1 are.1.asks in
+    let asks : AsksEdits call.command call.input are.1.requests = asked_by (codes "edit") call.command old.present call.input are.1.requests named are.1.asks in
+    let asked : AllRename are.1.requests = edits_rename call.command call.input are.1.requests this.1 asks in
     let here : AllRename requests = ap (λ (rs : List Request). list_all is_renaming rs) are.1.first ∙ some-pass is_renaming are.1.done are.1.requests asked in
     both_rename (ended requests) (requests_of others) (ended_rename requests here) (accepted_rename calls others are.0 new both.1 are.2)
 

@@ -1,14 +1,17 @@
 -- What was read up to the limit tells of the whole file.
 use Rattle.bib_run.proofs.Words.{◌≡◌, ◌≢◌, ◌∙◌, Bool, ℕ, ◌+◌, ◌<◌, ◌≤◌, [], ◌++◌, length, take, drop, ap, Option, Some, None, subst, refl, arith, inl, inr, sym, codes, take_all, take-add, Consumes, file_limit, Text, IsReadFault, no_reading, Command, Answer, ReadsUpTo, Reading, KeptSteps, Request}
-use Rattle.bib_run.proofs.Words.{SessionState, Opens, IsOpenFault, AnswersFile, IsCatAnswer, IsLintAnswer, error_line, answer_of, position_of, IsAnswer, IsStoredAnswer, key_words, of_reading, edit, edit_words, import, undo, redo, log, forget, lint, explain, first_word, AnswersSession, AnswersInput}
+use Rattle.bib_run.proofs.Words.{SessionState, Opens, IsOpenFault, AnswersFile, IsCatAnswer, IsLintAnswer, error_line, answer_of, position_of, IsAnswer, key_words, first_word, AnswersSession, AnswersInput}
 use Rattle.bib_run.proofs.Words.{HasEditedBy, HasEditedByWords, HasImported, IsUnopened, IsUnopenedAnswer, OpensWith, judged_journal, IsTurnAnswer, IsLogAnswer, IsForgetAnswer}
-use Rattle.std.proofs.Common.{fold, append-nil, length-append}
+use Rattle.std.proofs.Common.{fold, append-nil, length-append, IsSomeAnd}
 use Rattle.std.proofs.lemmas.List.{length-take-le}
 use Rattle.std.proofs.lemmas.Bool.{cases_eq, cases_lt}
 use Rattle.std.proofs.Math.Seq.{take-append_seam}
 use Rattle.bib_spec.specs.Fault.{too_long, no_memory}
 use Rattle.bib_run.specs.Transfers.{HasBytes}
-use Rattle.bib_data.specs.declared.request.Request.TheVariants.{Undo, Redo}
+use Rattle.bib_data.specs.declared.request.Request.TheVariants as request
+use Rattle.bib_words.specs.declared.verbs.Verb.{Verb}
+use Rattle.bib_words.specs.declared.verbs.Verb.TheVariants.{Asks, Cat, Lint, Names, Explain, Edit, Import, Undo, Redo, Log, Forget}
+use Rattle.bib_words.specs.Verbs.{verb_of}
 use Rattle.bib_journal.proofs.LoadLemmas.{opened_short}
 use Rattle.bib_answers.specs.Opened as opening
 use Rattle.bib_answers.specs.Opened.{opened}
@@ -16,7 +19,10 @@ use Rattle.bib_answers.specs.Cat.{copied, refused}
 use Rattle.bib_answers.specs.Lint as linting
 use Rattle.bib_answers.specs.Positions.{position, position_after}
 use Rattle.bib_answers.specs.declared.positions.Position.{Position}
-use Rattle.bib_run.specs.Answers.{cat}
+use Rattle.bib_answers.specs.Names.{IsNamesAnswer, names_answer}
+use Rattle.bib_run.specs.declared.reading.Sources.{Sources}
+use Rattle.bib_run.specs.Answers.{Answers, IsEditsAnswer, question_answer, key_word, template_word, script, words}
+use Rattle.bib_run.specs.Sources.{front, fronts}
 use Rattle.bib_run.specs.Inputs as inputs
 use Rattle.bib_run.specs.Inputs.{answered}
 use Rattle.bib_run.specs.Sessions as why
@@ -137,34 +143,31 @@ IsLintAnswer-long name bytes answer long (linting.refused kind place other fault
     linting.refused kind place other (IsOpenFault-long bytes kind place long fault)
     (is ∙ ap (λ (at : Position). answer_of (error_line name at kind) [] 1) (fault_position bytes kind place long fault))
 
-IsStoredAnswer-long : (command : Command) (bytes : Text) (journal : Option Text) (input : Text) (answer : Answer) → file_limit < length bytes
-    → IsStoredAnswer command (take (file_limit + 1) bytes) journal input answer → IsStoredAnswer command bytes journal input answer
-IsStoredAnswer-long command bytes journal input answer long (cat named answers) = cat named (IsCatAnswer-long bytes answer long answers)
-IsStoredAnswer-long command bytes journal input answer long (of_reading answers is given) = of_reading answers is (AnswersFile-long answers bytes answer long given)
-IsStoredAnswer-long command bytes journal input answer long (lint named answers) = lint named (IsLintAnswer-long (first_word command) bytes answer long answers)
-IsStoredAnswer-long command bytes journal input answer long (explain named answers) = explain named answers
-IsStoredAnswer-long command bytes journal input answer long (edit named alone answers) =
-    edit named alone (AnswersSession-long command.new_journal (AnswersInput HasEditedBy input) bytes journal answer long answers)
-IsStoredAnswer-long command bytes journal input answer long (edit_words named worded answers) =
-    edit_words named worded (AnswersSession-long command.new_journal (HasEditedByWords (key_words command)) bytes journal answer long answers)
-IsStoredAnswer-long command bytes journal input answer long (import named answers) =
-    import named (AnswersSession-long command.new_journal (AnswersInput HasImported input) bytes journal answer long answers)
-IsStoredAnswer-long command bytes journal input answer long (undo named answers) = undo named (IsTurnAnswer-long (codes "undone") Undo command.n bytes journal answer long answers)
-IsStoredAnswer-long command bytes journal input answer long (redo named answers) = redo named (IsTurnAnswer-long (codes "redone") Redo command.n bytes journal answer long answers)
-IsStoredAnswer-long command bytes journal input answer long (log named answers) = log named (IsLogAnswer-long bytes journal answer long answers)
-IsStoredAnswer-long command bytes journal input answer long (forget named answers) = forget named (IsForgetAnswer-long bytes answer long answers)
+IsEditsAnswer-long : (command : Command) (bytes : Text) (journal : Option Text) (input : Text) (answer : Answer) → file_limit < length bytes
+    → IsEditsAnswer command (take (file_limit + 1) bytes) journal input answer → IsEditsAnswer command bytes journal input answer
+IsEditsAnswer-long command bytes journal input answer long (script alone given) =
+    script alone (AnswersSession-long command.new_journal (AnswersInput HasEditedBy input) bytes journal answer long given)
+IsEditsAnswer-long command bytes journal input answer long (words more given) =
+    words more (AnswersSession-long command.new_journal (HasEditedByWords (key_words command)) bytes journal answer long given)
 
-IsStoredAnswer-front : (command : Command) (bytes : Text) (journal : Option Text) (input : Text) (answer : Answer)
-    → IsStoredAnswer command (take (file_limit + 1) bytes) journal input answer → IsStoredAnswer command bytes journal input answer
-IsStoredAnswer-front command bytes journal input answer answers = elim (cases_lt file_limit (length bytes)) [
-  | inl long ↦ IsStoredAnswer-long command bytes journal input answer long answers
-  | inr short ↦ subst (λ t. IsStoredAnswer command t journal input answer) (take_all (file_limit + 1) bytes (omega (arith, short))) answers
-]
+IsNamesAnswer-long : (depth : ℕ) (key template bytes : Text) (answer : Answer) → file_limit < length bytes → IsNamesAnswer depth key template (take (file_limit + 1) bytes) answer
+    → IsNamesAnswer depth key template bytes answer
+IsNamesAnswer-long depth key template bytes answer long a =
+    record { pattern = a.pattern; spells = a.spells; answers = AnswersFile-long (names_answer depth key a.pattern) bytes answer long a.answers }
 
--- the answer to what was read of a file is the answer to the file
-pub IsAnswer-front : (command : Command) (bytes : Text) (journal : Option Text) (input : Text) (answer : Answer)
-    → IsAnswer command (take (file_limit + 1) bytes) journal input answer → IsAnswer command bytes journal input answer
-IsAnswer-front command bytes journal input answer a = record { stored = a.stored; answers = IsStoredAnswer-front command bytes journal input a.stored a.answers; shown = a.shown }
+Answers-long : (verb : Verb) (command : Command) (bytes : Text) (journal : Option Text) (input : Text) (answer : Answer) → file_limit < length bytes
+    → Answers verb command (take (file_limit + 1) bytes) journal input answer → Answers verb command bytes journal input answer
+Answers-long (Asks question) command bytes journal input answer long = AnswersFile-long (question_answer question command) bytes answer long
+Answers-long Cat command bytes journal input answer long = IsCatAnswer-long bytes answer long
+Answers-long Lint command bytes journal input answer long = IsLintAnswer-long (first_word command) bytes answer long
+Answers-long Names command bytes journal input answer long = IsNamesAnswer-long command.depth (key_word command) (template_word command) bytes answer long
+Answers-long Explain command bytes journal input answer long = λ given. given
+Answers-long Edit command bytes journal input answer long = IsEditsAnswer-long command bytes journal input answer long
+Answers-long Import command bytes journal input answer long = AnswersSession-long command.new_journal (AnswersInput HasImported input) bytes journal answer long
+Answers-long Undo command bytes journal input answer long = IsTurnAnswer-long (codes "undone") request.Undo command.n bytes journal answer long
+Answers-long Redo command bytes journal input answer long = IsTurnAnswer-long (codes "redone") request.Redo command.n bytes journal answer long
+Answers-long Log command bytes journal input answer long = IsLogAnswer-long bytes journal answer long
+Answers-long Forget command bytes journal input answer long = IsForgetAnswer-long bytes answer long
 
 -- an input that is too long is refused as its front is
 AnswersSession-input : (new_journal : Bool) (answers : Text → SessionState → Answer → Type 0) (file : Text) (journal : Option Text) (input : Text) (answer : Answer) → file_limit < length input
@@ -173,29 +176,49 @@ AnswersSession-input new_journal answers file journal input answer long (answere
 AnswersSession-input new_journal answers file journal input answer long (answered state opens (inputs.too_long over made)) = answered state opens (inputs.too_long long made)
 AnswersSession-input new_journal answers file journal input answer long (inputs.unopened w) = inputs.unopened w
 
-IsStoredAnswer-input : (command : Command) (file : Text) (journal : Option Text) (input : Text) (answer : Answer) → file_limit < length input
-    → IsStoredAnswer command file journal (take (file_limit + 1) input) answer → IsStoredAnswer command file journal input answer
-IsStoredAnswer-input command file journal input answer long (cat named answers) = cat named answers
-IsStoredAnswer-input command file journal input answer long (of_reading answers is given) = of_reading answers is given
-IsStoredAnswer-input command file journal input answer long (lint named answers) = lint named answers
-IsStoredAnswer-input command file journal input answer long (explain named answers) = explain named answers
-IsStoredAnswer-input command file journal input answer long (edit named alone answers) = edit named alone (AnswersSession-input command.new_journal HasEditedBy file journal input answer long answers)
-IsStoredAnswer-input command file journal input answer long (edit_words named worded answers) = edit_words named worded answers
-IsStoredAnswer-input command file journal input answer long (import named answers) = import named (AnswersSession-input command.new_journal HasImported file journal input answer long answers)
-IsStoredAnswer-input command file journal input answer long (undo named answers) = undo named answers
-IsStoredAnswer-input command file journal input answer long (redo named answers) = redo named answers
-IsStoredAnswer-input command file journal input answer long (log named answers) = log named answers
-IsStoredAnswer-input command file journal input answer long (forget named answers) = forget named answers
+IsEditsAnswer-input : (command : Command) (file : Text) (journal : Option Text) (input : Text) (answer : Answer) → file_limit < length input
+    → IsEditsAnswer command file journal (take (file_limit + 1) input) answer → IsEditsAnswer command file journal input answer
+IsEditsAnswer-input command file journal input answer long (script alone given) = script alone (AnswersSession-input command.new_journal HasEditedBy file journal input answer long given)
+IsEditsAnswer-input command file journal input answer long (words more given) = words more given
 
-IsStoredAnswer-input_front : (command : Command) (file : Text) (journal : Option Text) (input : Text) (answer : Answer)
-    → IsStoredAnswer command file journal (take (file_limit + 1) input) answer → IsStoredAnswer command file journal input answer
-IsStoredAnswer-input_front command file journal input answer answers = elim (cases_lt file_limit (length input)) [
-  | inl long ↦ IsStoredAnswer-input command file journal input answer long answers
-  | inr short ↦ subst (λ t. IsStoredAnswer command file journal t answer) (take_all (file_limit + 1) input (omega (arith, short))) answers
+Answers-input : (verb : Verb) (command : Command) (file : Text) (journal : Option Text) (input : Text) (answer : Answer) → file_limit < length input
+    → Answers verb command file journal (take (file_limit + 1) input) answer → Answers verb command file journal input answer
+Answers-input (Asks question) command file journal input answer long = λ given. given
+Answers-input Cat command file journal input answer long = λ given. given
+Answers-input Lint command file journal input answer long = λ given. given
+Answers-input Names command file journal input answer long = λ given. given
+Answers-input Explain command file journal input answer long = λ given. given
+Answers-input Edit command file journal input answer long = IsEditsAnswer-input command file journal input answer long
+Answers-input Import command file journal input answer long = AnswersSession-input command.new_journal HasImported file journal input answer long
+Answers-input Undo command file journal input answer long = λ given. given
+Answers-input Redo command file journal input answer long = λ given. given
+Answers-input Log command file journal input answer long = λ given. given
+Answers-input Forget command file journal input answer long = λ given. given
+
+-- what holds of the front of a text holds of the text, if it holds of a text that is longer than the limit
+by_front : (P : Text → Type 0) (bytes : Text) → (file_limit < length bytes → P (front bytes) → P bytes) → P (front bytes) → P bytes
+by_front P bytes longer given = elim (cases_lt file_limit (length bytes)) [
+  | inl long ↦ longer long given
+  | inr short ↦ subst P (take_all (file_limit + 1) bytes (omega (arith, short))) given
 ]
 
--- the answer to what was read of an input is the answer to the input
-pub IsAnswer-input_front : (command : Command) (file : Text) (journal : Option Text) (input : Text) (answer : Answer)
-    → IsAnswer command file journal (take (file_limit + 1) input) answer → IsAnswer command file journal input answer
-IsAnswer-input_front command file journal input answer a =
-    record { stored = a.stored; answers = IsStoredAnswer-input_front command file journal input a.stored a.answers; shown = a.shown }
+Answers-fronts : (verb : Verb) (command : Command) (bytes : Sources) (answer : Answer)
+    → Answers verb command (front bytes.file) bytes.journal (front bytes.input) answer → Answers verb command bytes.file bytes.journal bytes.input answer
+Answers-fronts verb command bytes answer given =
+    by_front (λ file. Answers verb command file bytes.journal bytes.input answer) bytes.file (Answers-long verb command bytes.file bytes.journal bytes.input answer)
+    (by_front (λ input. Answers verb command (front bytes.file) bytes.journal input answer) bytes.input (Answers-input verb command (front bytes.file) bytes.journal bytes.input answer) given)
+
+of_some : (verb : Option Verb) (P Q : Verb → Type 0) → ((v : Verb) → P v → Q v) → IsSomeAnd verb P → IsSomeAnd verb Q
+of_some None P Q each given = given
+of_some (Some verb) P Q each given = each verb given
+
+-- the answer to what was kept of the sources is the answer to what they hold
+pub IsAnswer-fronts : (command : Command) (bytes kept : Sources) (answer : Answer) → kept ≡ fronts bytes → IsAnswer command kept.file kept.journal kept.input answer
+    → IsAnswer command bytes.file bytes.journal bytes.input answer
+IsAnswer-fronts command bytes kept answer is given =
+    let a : IsAnswer command (front bytes.file) bytes.journal (front bytes.input) answer = subst (λ (s : Sources). IsAnswer command s.file s.journal s.input answer) is given in
+    record {
+      stored = a.stored;
+      answers = of_some (verb_of command.name) _ _ (λ verb. Answers-fronts verb command bytes a.stored) a.answers;
+      shown = a.shown;
+    }

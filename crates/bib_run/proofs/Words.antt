@@ -19,7 +19,7 @@ pub use Rattle.bib_journal.specs.declared.fault.SessionFault.TheVariants.{BadJou
 pub use Rattle.bib_journal.specs.declared.saving.Saved.{Saved}
 pub use Rattle.bib_ris.specs.Import.{AreAdditions}
 pub use Rattle.bib_ris.specs.declared.importing.Additions.{Additions}
-pub use Rattle.bib_run.specs.Answers.{IsAnswer, IsAnswerTo, IsStoredAnswer, edit, edit_words, explain, first_word, forget, import, key_words, lint, log, of_reading, redo, undo}
+pub use Rattle.bib_run.specs.Answers.{IsAnswer, first_word, key_words}
 pub use Rattle.bib_run.specs.EditAnswer.{HasEdited, HasEditedBy, HasEditedByWords, IsEditAnswer, IsWordsAnswer, changes_of, edited_answer, fault_message, stop_line}
 pub use Rattle.bib_run.specs.ImportAnswer.{HasAdded, HasImported, IsImportAnswer}
 pub use Rattle.bib_run.specs.Inputs.{AnswersInput, AnswersSession, within}

@@ -1,9 +1,13 @@
 -- What each command answers to the bytes of its sources.
-use Rattle.std.specs.Prelude.{◌≡◌, ◌≢◌, List, [], length, drop, slice_index_or, codes, Option}
+use Rattle.std.specs.Prelude.{◌≡◌, ◌≢◌, List, [], length, drop, slice_index_or, codes, Option, IsSomeAnd}
 use Rattle.bib_spec.specs.Text.{Text}
 use Rattle.bib_spec.specs.Reading.{Reading}
-use Rattle.bib_names.specs.Template.{Pattern}
 use Rattle.bib_words.specs.declared.commands.Command.{Command}
+use Rattle.bib_words.specs.declared.verbs.Question.{Question}
+use Rattle.bib_words.specs.declared.verbs.Question.TheVariants.{Check, Show, Cite, Labels, Json, NewKeys, Ris}
+use Rattle.bib_words.specs.declared.verbs.Verb.{Verb}
+use Rattle.bib_words.specs.declared.verbs.Verb.TheVariants.{Asks, Cat, Lint, Names, Explain, Edit, Undo, Redo, Log, Forget, Import}
+use Rattle.bib_words.specs.Verbs.{verb_of}
 use Rattle.bib_answers.specs.declared.answers.Answer.{Answer}
 use Rattle.bib_answers.specs.Cat.{IsCatAnswer}
 use Rattle.bib_answers.specs.Opened.{AnswersFile}
@@ -16,8 +20,8 @@ use Rattle.bib_answers.specs.NewKeys.{newkeys_answer}
 use Rattle.bib_answers.specs.Lint.{IsLintAnswer}
 use Rattle.bib_run.specs.Explaining.{IsExplainAnswer}
 use Rattle.bib_run.specs.Ris.{ris_answer}
-use Rattle.bib_answers.specs.Names.{Spells, names_answer}
-use Rattle.bib_data.specs.declared.request.Request.TheVariants.{Undo, Redo}
+use Rattle.bib_answers.specs.Names.{IsNamesAnswer}
+use Rattle.bib_data.specs.declared.request.Request.TheVariants as request
 use Rattle.bib_run.specs.EditAnswer.{IsEditAnswer, IsWordsAnswer}
 use Rattle.bib_run.specs.ImportAnswer.{IsImportAnswer}
 use Rattle.bib_run.specs.Turns.{IsTurnAnswer}
@@ -40,31 +44,38 @@ template_word command = slice_index_or command.words 2 []
 abbrev pub key_words : Command → List Text
 key_words command = drop 1 command.words
 
--- the command has this answer, as a function of what its file says
-pub data IsAnswerTo (command : Command) : (Reading → Answer) → Type 0 where
-  check : command.name ≡ codes "check" → IsAnswerTo command check_answer
-  show : command.name ≡ codes "show" → IsAnswerTo command (show_answer command.depth (key_word command))
-  cite : command.name ≡ codes "cite" → IsAnswerTo command (cite_answer (key_words command) command.n)
-  labels : command.name ≡ codes "labels" → IsAnswerTo command (labels_answer command.depth (key_words command))
-  json : command.name ≡ codes "json" → IsAnswerTo command (json_answer command.depth (key_words command))
-  newkeys : command.name ≡ codes "newkeys" → IsAnswerTo command (newkeys_answer command.depth)
-  ris : command.name ≡ codes "ris" → IsAnswerTo command (ris_answer command.dropped command.depth (key_words command))
-  names : command.name ≡ codes "names" → (pattern : Option Pattern) → Spells (template_word command) pattern → IsAnswerTo command (names_answer command.depth (key_word command) pattern)
+-- what a command answers to what its file says
+abbrev pub question_answer : Question → Command → Reading → Answer
+question_answer Check command = check_answer
+question_answer Show command = show_answer command.depth (key_word command)
+question_answer Cite command = cite_answer (key_words command) command.n
+question_answer Labels command = labels_answer command.depth (key_words command)
+question_answer Json command = json_answer command.depth (key_words command)
+question_answer NewKeys command = newkeys_answer command.depth
+question_answer Ris command = ris_answer command.dropped command.depth (key_words command)
 
--- the answer of a command to a file, and to its journal and its input if it reads them, when what is new is to be stored
-pub data IsStoredAnswer (command : Command) (file : Text) (journal : Option Text) (input : Text) (answer : Answer) : Type 0 where
-  cat : command.name ≡ codes "cat" → IsCatAnswer file answer → IsStoredAnswer command file journal input answer
-  of_reading : (answers : Reading → Answer) → IsAnswerTo command answers → AnswersFile answers file answer → IsStoredAnswer command file journal input answer
-  lint : command.name ≡ codes "lint" → IsLintAnswer (first_word command) file answer → IsStoredAnswer command file journal input answer
-  explain : command.name ≡ codes "explain" → IsExplainAnswer (first_word command) answer → IsStoredAnswer command file journal input answer
-  edit : command.name ≡ codes "edit" → length command.words ≡ 1 → IsEditAnswer command.new_journal file journal input answer → IsStoredAnswer command file journal input answer
-  edit_words : command.name ≡ codes "edit" → length command.words ≢ 1 → IsWordsAnswer command.new_journal (key_words command) file journal answer
-      → IsStoredAnswer command file journal input answer
-  undo : command.name ≡ codes "undo" → IsTurnAnswer (codes "undone") Undo command.n file journal answer → IsStoredAnswer command file journal input answer
-  redo : command.name ≡ codes "redo" → IsTurnAnswer (codes "redone") Redo command.n file journal answer → IsStoredAnswer command file journal input answer
-  log : command.name ≡ codes "log" → IsLogAnswer file journal answer → IsStoredAnswer command file journal input answer
-  import : command.name ≡ codes "import" → IsImportAnswer command.new_journal file journal input answer → IsStoredAnswer command file journal input answer
-  forget : command.name ≡ codes "forget" → IsForgetAnswer file answer → IsStoredAnswer command file journal input answer
+-- what `edit` answers: to a script, or to the words of one edit if words follow the file
+pub data IsEditsAnswer (command : Command) (file : Text) (journal : Option Text) (input : Text) (answer : Answer) : Type 0 where
+  script : length command.words ≡ 1 → IsEditAnswer command.new_journal file journal input answer → IsEditsAnswer command file journal input answer
+  words : length command.words ≢ 1 → IsWordsAnswer command.new_journal (key_words command) file journal answer → IsEditsAnswer command file journal input answer
+
+-- what each command answers to a file, and to its journal and its input if it reads them, when what is new is to be stored
+abbrev pub Answers : Verb → Command → Text → Option Text → Text → Answer → Type 0
+Answers (Asks question) command file journal input = AnswersFile (question_answer question command) file
+Answers Cat command file journal input = IsCatAnswer file
+Answers Lint command file journal input = IsLintAnswer (first_word command) file
+Answers Names command file journal input = IsNamesAnswer command.depth (key_word command) (template_word command) file
+Answers Explain command file journal input = IsExplainAnswer (first_word command)
+Answers Edit command file journal input = IsEditsAnswer command file journal input
+Answers Import command file journal input = IsImportAnswer command.new_journal file journal input
+Answers Undo command file journal input = IsTurnAnswer (codes "undone") request.Undo command.n file journal
+Answers Redo command file journal input = IsTurnAnswer (codes "redone") request.Redo command.n file journal
+Answers Log command file journal input = IsLogAnswer file journal
+Answers Forget command file journal input = IsForgetAnswer file
+
+-- the answer of a command of the program, when what is new is to be stored
+abbrev pub IsStoredAnswer : Command → Text → Option Text → Text → Answer → Type 0
+IsStoredAnswer command file journal input answer = IsSomeAnd (verb_of command.name) (λ verb. Answers verb command file journal input answer)
 
 -- the answer of a command to a file, and to its journal and its input if it reads them; with `--print` the new file is its output
 pub record IsAnswer (command : Command) (file : Text) (journal : Option Text) (input : Text) (answer : Answer) : Type 0 where

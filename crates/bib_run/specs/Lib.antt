@@ -1,6 +1,9 @@
 pub mod Transfers
 pub mod Messages
 pub mod Answers
+pub mod Views
+pub mod Sources
+pub mod Written
 pub mod Runs
 pub mod Lent
 pub mod SessionNames

@@ -1,5 +1,5 @@
 -- Runs of the program, one after another, over one file: what an answer leaves is stored, and the next run reads it. (dialect)
-use Rattle.std.specs.Prelude.{ℕ, ◌≡◌, ◌≢◌, ◌<◌, ◌≤◌, ◌&&◌, ◌==◌, if◌then◌else◌, Bool, true, false, List, [], ◌∷◌, length, take, replicate, bytes_eq, codes, Option, Some, None, unwrap_or}
+use Rattle.std.specs.Prelude.{ℕ, ◌≡◌, ◌≢◌, ◌<◌, ◌≤◌, ◌&&◌, ◌==◌, if◌then◌else◌, Bool, true, false, List, [], ◌∷◌, length, take, replicate, bytes_eq, codes, Option, Some, None, IsSomeAnd, unwrap_or}
 use Rattle.std.specs.List.{list_all}
 use Rattle.bib_spec.specs.Bytes.{file_limit}
 use Rattle.bib_spec.specs.Text.{Text}
@@ -21,6 +21,10 @@ use Rattle.bib_ris.specs.Import.{AreAdditions, RefusesImport}
 use Rattle.bib_script.specs.Script.{said_of}
 use Rattle.bib_script.specs.Words.{asked_by_words}
 use Rattle.bib_words.specs.declared.commands.Command.{Command}
+use Rattle.bib_words.specs.declared.verbs.Verb.{Verb}
+use Rattle.bib_words.specs.declared.verbs.Verb.TheVariants.{Edit, Undo, Redo, Log, Import}
+use Rattle.bib_words.specs.Verbs.{verb_of}
+use Rattle.bib_words.specs.Command.{ReadsJournal}
 use Rattle.bib_answers.specs.declared.answers.Outcome.{Outcome}
 use Rattle.bib_answers.specs.declared.answers.Answer.{Answer}
 use Rattle.bib_run.specs.Answers.{IsAnswer, key_words}
@@ -47,29 +51,38 @@ pub record IsStoredRun (command : Command) (input : Text) (old new : OnDisk) : T
 -- ---- requests of a command
 
 -- a run of the command is a session: it opens the file and its journal, and leaves both
-pub data OpensSession (c : Command) : Type 0 where
-  edit : c.name ≡ codes "edit" → OpensSession c
-  undo : c.name ≡ codes "undo" → OpensSession c
-  redo : c.name ≡ codes "redo" → OpensSession c
-  log : c.name ≡ codes "log" → OpensSession c
-  import : c.name ≡ codes "import" → OpensSession c
+abbrev pub OpensSession : Command → Type 0
+OpensSession = ReadsJournal
 
 -- The requests of `edit`: the requests of its script; or, if words follow the file, a step of the one edit that they say, and no
 -- request if they say no edit.
 abbrev pub edits_asked : Command → Text → List Request
 edits_asked command input = if length command.words == 1 then (said_of input).requests else unwrap_or (asked_by_words (key_words command)) []
 
--- The requests of a command to a session with this present file: the edits of a script or of words; `n` undos or redos; one
--- addition of all entries that its input says. `log` requests nothing, nor does a command whose input is too long or no RIS text.
-pub data Asks (command : Command) (present input : Text) : List Request → Type 0 where
-  edits : command.name ≡ codes "edit" → Asks command present input (edits_asked command input)
-  undos : command.name ≡ codes "undo" → Asks command present input (replicate command.n request.Undo)
-  redos : command.name ≡ codes "redo" → Asks command present input (replicate command.n request.Redo)
-  addition : command.name ≡ codes "import" → (a : Additions) → AreAdditions present input a → Asks command present input (request.Edit (AddMany a.entries) ∷ [])
-  no_text : command.name ≡ codes "import" → (fault : ImportFault) → fault ≢ import_fault.Memory → RefusesImport fault input → Asks command present input []
-  long_script : command.name ≡ codes "edit" → file_limit < length input → Asks command present input []
-  long_text : command.name ≡ codes "import" → file_limit < length input → Asks command present input []
-  nothing : command.name ≡ codes "log" → Asks command present input []
+-- the requests of `edit`: the edits of a script or of words, or none if its input is too long
+pub data AsksEdits (command : Command) (input : Text) : List Request → Type 0 where
+  edits : AsksEdits command input (edits_asked command input)
+  too_long : file_limit < length input → AsksEdits command input []
+
+-- the requests of `import`: one addition of all entries that its input says, or none if its input is too long or no RIS text
+pub data AsksAdditions (present input : Text) : List Request → Type 0 where
+  addition : (a : Additions) → AreAdditions present input a → AsksAdditions present input (request.Edit (AddMany a.entries) ∷ [])
+  no_text : (fault : ImportFault) → fault ≢ import_fault.Memory → RefusesImport fault input → AsksAdditions present input []
+  too_long : file_limit < length input → AsksAdditions present input []
+
+-- The requests of each command to a session with this present file: those of `edit` and `import`; `n` undos or redos. `log`
+-- requests nothing, and the other commands open no session.
+abbrev pub Requests : Verb → Command → Text → Text → List Request → Type 0
+Requests Edit command present input = AsksEdits command input
+Requests Import command present input = AsksAdditions present input
+Requests Undo command present input = λ requests. requests ≡ replicate command.n request.Undo
+Requests Redo command present input = λ requests. requests ≡ replicate command.n request.Redo
+Requests Log command present input = λ requests. requests ≡ []
+Requests _ command present input = λ requests. ⊥
+
+-- the requests of a command of the program
+abbrev pub Asks : Command → Text → Text → List Request → Type 0
+Asks command present input requests = IsSomeAnd (verb_of command.name) (λ verb. Requests verb command present input requests)
 
 -- A session that keeps the steps `old` gets the requests of the command, and accepts these: all, or those before the first that
 -- is refused. It keeps the steps `new` then.

@@ -4,18 +4,24 @@
 //! an answer.
 #![tactic(auto)]
 
+mod answering;
 mod commands;
 mod engine;
 mod laws;
 mod messages;
+mod reading;
 mod sessions;
 mod sink;
 mod source;
+mod writing;
 
-pub use bib_answers::Outcome;
+pub use answering::answer;
+pub use bib_answers::{Answer, Outcome};
 pub use bib_taps::Tap;
 pub use bib_words::Command;
 pub use engine::run;
 pub use laws::{a_command_has_one_answer, runs_of_the_program_are_one_session};
 pub use messages::{READ_FAULT, WRITE_FAULT};
+pub use reading::{Sources, read_sources};
 pub use sink::write_whole;
+pub use writing::write_answer;

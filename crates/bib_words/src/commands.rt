@@ -1,5 +1,6 @@
 //! A command as its words.
 
+use crate::verbs::{Shape, Verb};
 use bib_text::{Seq, Text};
 
 /// The greatest number that a command takes.
@@ -23,9 +24,9 @@ pub struct Command {
 }
 
 impl Command {
-    ghost use Rattle.std.specs.Prelude.{◌≡◌, ◌↔◌, ◌≤◌, IsTrue, length};
-    ghost use Rattle.bib_spec.specs.Records.{depth_limit};
-    ghost use Rattle.bib_words.specs.Command.{number_limit, HasItsWords, HasItsOptions, AddsChange, MakesFile, IsCommand, ReadsJournal, TakesInput};
+    ghost use Rattle.std.specs.Prelude.{◌≡◌, ◌↔◌, IsTrue, length};
+    ghost use Rattle.bib_words.specs.Verbs.{verb_of};
+    ghost use Rattle.bib_words.specs.Command.{HasItsWords, HasItsOptions, AddsChange, MakesFile, IsCommand, ReadsJournal, TakesInput};
 
     /// Whether the command has this name. It takes no memory.
     pub fn is_named(&self, name: &[u8]) -> bool
@@ -34,35 +35,50 @@ impl Command {
         self.name.as_slice() == name
     }
 
+    /// Which command of the program this is, or none if the program has no command of this name. It takes no memory.
+    pub fn verb(&self) -> Option<Verb>
+        ensures { result ≡ verb_of self.now.name }
+    {
+        Verb::of(self.name.as_slice())
+    }
+
     /// Whether the command adds a change to its file. It takes no memory.
     pub fn adds_change(&self) -> bool
         ensures { IsTrue result ↔ AddsChange self.now }
     {
-        self.is_named(b"edit") || self.is_named(b"import")
+        match self.verb() {
+            Some(verb) => verb.adds_change(),
+            None => false,
+        }
     }
 
     /// Whether the command makes a new file from the old one. It takes no memory.
     pub fn makes_file(&self) -> bool
         ensures { IsTrue result ↔ MakesFile self.now }
     {
-        self.adds_change() || self.is_named(b"undo") || self.is_named(b"redo")
+        match self.verb() {
+            Some(verb) => verb.makes_file(),
+            None => false,
+        }
     }
 
     /// Whether the command reads the journal of its file. It takes no memory.
     pub fn reads_journal(&self) -> bool
         ensures { IsTrue result ↔ ReadsJournal self.now }
     {
-        self.makes_file() || self.is_named(b"log")
+        match self.verb() {
+            Some(verb) => verb.reads_journal(),
+            None => false,
+        }
     }
 
     /// Whether the command reads standard input as well as its file. It takes no memory.
     pub fn takes_input(&self) -> bool
         ensures { IsTrue result ↔ TakesInput self.now }
     {
-        if self.words.as_slice().len() == 1 {
-            self.is_named(b"edit") || self.is_named(b"import")
-        } else {
-            self.is_named(b"import")
+        match self.verb() {
+            Some(verb) => verb.takes_input(self.words.as_slice().len()),
+            None => false,
         }
     }
 
@@ -71,91 +87,52 @@ impl Command {
     pub fn is_known(&self) -> bool
         ensures { IsTrue result ↔ IsCommand self.now }
     {
-        self.has_its_words() && self.has_its_options()
-    }
-
-    /// Whether the command takes each option that is given.
-    fn has_its_options(&self) -> bool
-        ensures { IsTrue result ↔ HasItsOptions self.now }
-    {
-        (!self.print || self.makes_file())
-            && (!self.new_journal || self.adds_change())
-            && (!self.dropped || self.is_named(b"ris"))
-    }
-
-    /// Whether the command takes this number of arguments, this number and this depth.
-    fn has_its_words(&self) -> bool
-        ensures { IsTrue result ↔ HasItsWords self.now }
-    {
-        if self.depth > 0 {
-            self.n == 0 && self.depth <= DEPTH_LIMIT && self.has_words_with_depth()
-        } else if self.n == 0 {
-            self.has_words_alone()
-        } else {
-            self.n <= NUMBER_LIMIT && self.has_words_with_number()
+        match self.verb() {
+            Some(verb) => self.has_its_words(verb.shape()) && self.has_its_options(verb),
+            None => false,
         }
     }
 
-    /// Whether the command takes this number of arguments, without a number or a depth.
-    fn has_words_alone(&self) -> bool
-        requires number { self.now.n ≡ 0 }
-        requires depth { self.now.depth ≡ 0 }
-        ensures { IsTrue result ↔ HasItsWords self.now }
+    /// Whether the command has each option that is given.
+    fn has_its_options(&self, verb: Verb) -> bool
+        ensures { IsTrue result ↔ HasItsOptions verb self.now }
     {
-        match self.words.as_slice().len() {
-            0 => self.is_named(b"cat"),
-            1 => self.has_one_word(),
-            _ => self.is_named(b"edit"),
-        }
+        (!self.print || verb.makes_file())
+            && (!self.new_journal || verb.adds_change())
+            && (!self.dropped || verb.takes_dropped())
     }
 
-    /// Whether the command takes one argument, without a number or a depth.
-    fn has_one_word(&self) -> bool
-        requires number { self.now.n ≡ 0 }
-        requires depth { self.now.depth ≡ 0 }
-        requires words { length self.now.words ≡ 1 }
-        ensures { IsTrue result ↔ HasItsWords self.now }
+    /// Whether the command has as many arguments as this shape takes, and the number and the depth that it takes.
+    fn has_its_words(&self, shape: Shape) -> bool
+        ensures { IsTrue result ↔ HasItsWords shape self.now }
     {
-        self.adds_change()
-            || self.is_named(b"cat")
-            || self.is_named(b"check")
-            || self.is_named(b"lint")
-            || self.is_named(b"explain")
-            || self.is_named(b"log")
-            || self.is_named(b"forget")
+        let count = self.words.as_slice().len();
+        count >= shape.least
+            && is_at_most(count, shape.most)
+            && is_number(shape.number, self.n, NUMBER_LIMIT)
+            && is_number(shape.depth, self.depth as u32, DEPTH_LIMIT as u32)
     }
+}
 
-    /// Whether the command takes this number of arguments and a number, which is in its range, without a depth.
-    fn has_words_with_number(&self) -> bool
-        requires least { 1 ≤ self.now.n }
-        requires most { self.now.n ≤ number_limit }
-        requires depth { self.now.depth ≡ 0 }
-        ensures { IsTrue result ↔ HasItsWords self.now }
-    {
-        match self.words.as_slice().len() {
-            0 => false,
-            1 => self.is_named(b"undo") || self.is_named(b"redo"),
-            _ => self.is_named(b"cite"),
-        }
-    }
+ghost use Rattle.std.specs.Prelude.{◌↔◌, ◌≤◌, IsTrue, IfSome};
+ghost use Rattle.bib_words.specs.Command.{IsNumber};
 
-    /// Whether the command takes this number of arguments and a depth, which is in its range, without a number.
-    fn has_words_with_depth(&self) -> bool
-        requires number { self.now.n ≡ 0 }
-        requires least { 1 ≤ self.now.depth }
-        requires most { self.now.depth ≤ depth_limit }
-        ensures { IsTrue result ↔ HasItsWords self.now }
-    {
-        match self.words.as_slice().len() {
-            0 => false,
-            1 => self.is_named(b"newkeys"),
-            words => {
-                (words == 2 && self.is_named(b"show"))
-                    || (words == 3 && self.is_named(b"names"))
-                    || self.is_named(b"labels")
-                    || self.is_named(b"json")
-                    || self.is_named(b"ris")
-            }
-        }
+/// Whether this many are not more than the most, if there is one.
+fn is_at_most(count: usize, most: Option<usize>) -> bool
+    ensures { IsTrue result ↔ IfSome most (λ most. count ≤ most) }
+{
+    match most {
+        Some(most) => count <= most,
+        None => true,
     }
+}
+
+/// Whether the number is in the range from 1 up to the limit, or is 0 if none is taken.
+fn is_number(taken: bool, n: u32, limit: u32) -> bool
+    ensures { IsTrue result ↔ IsNumber taken limit n }
+{
+    if taken {
+        return n > 0 && n <= limit;
+    }
+    n == 0
 }

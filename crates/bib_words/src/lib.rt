@@ -5,5 +5,7 @@
 
 mod commands;
 pub mod status;
+mod verbs;
 
 pub use commands::Command;
+pub use verbs::{Question, Verb};

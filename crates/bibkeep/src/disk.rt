@@ -61,8 +61,8 @@ impl Folder for Disk<'_> {
 
 /// What was found, or nothing if there is nothing. Another error stays one.
 pub fn found<T: Drop>(looked: io::Result<T>) -> io::Result<Option<T>>
-    ensures some { IfOk looked.entry (λ found. IsOkAnd result (λ option. option ≡ Some found)) }
-    ensures none { IfOk result (λ option. option ≡ None → IsErrAnd looked.entry (λ error. error_kind error ≡ ErrorKind.NotFound)) }
+    ensures some { IfOk looked (λ found. IsOkAnd result (λ option. option ≡ Some found)) }
+    ensures none { IfOk result (λ option. option ≡ None → IsErrAnd looked (λ error. error_kind error ≡ ErrorKind.NotFound)) }
 {
     match looked {
         Ok(found) => Ok(Some(found)),

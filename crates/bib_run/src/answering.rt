@@ -1,0 +1,206 @@
+//! What each command answers to the bytes of its sources.
+
+ghost use Rattle.std.specs.Prelude.{◌≡◌, ◌≤◌, ◌<◌, [], IfOk, option_map, slice_index_or, length};
+ghost use Rattle.bib_words.specs.Command.{HasItsWords, IsCommand};
+ghost use Rattle.bib_words.specs.Verbs.{question_shape, shape};
+ghost use Rattle.bib_answers.specs.Opened.{AnswersFile};
+ghost use Rattle.bib_run.specs.Answers.{Answers, IsAnswer, IsEditsAnswer, IsStoredAnswer, question_answer, key_words};
+ghost use Rattle.bib_run.specs.Shown.{printed, shown};
+
+use crate::commands::edit::{answer_edit, answer_words};
+use crate::commands::explain::answer_explain;
+use crate::commands::import::answer_import;
+use crate::commands::log::{answer_forget, answer_log};
+use crate::commands::ris::answer_ris;
+use crate::commands::turning::{answer_redo, answer_undo};
+use crate::reading::Sources;
+use bib_answers::{
+    Answer, Outcome, answer_cat, answer_check, answer_cite, answer_json, answer_labels,
+    answer_lint, answer_names, answer_newkeys, answer_show, outcome_of,
+};
+use bib_scan::Text;
+use bib_words::{Command, Question, Verb};
+use std::alloc::{AllocError, Global};
+
+/// The command's answer to the bytes of its sources. It keeps the file once, where it was read. It reads and writes
+/// nothing, and is refused only if memory runs out.
+pub fn answer(alloc: Global, command: &Command, sources: Sources) -> Result<Answer, AllocError>
+    requires { IsCommand command.now }
+    ensures { IfOk result (IsAnswer command.now sources.file sources.journal sources.input) }
+{
+    let Sources {
+        file,
+        journal,
+        input,
+    } = sources;
+    answer_of(
+        alloc,
+        command,
+        file.into_vec(),
+        lent(&journal),
+        input.as_slice(),
+    )
+}
+
+/// The bytes of a text, if there is one.
+fn lent(text: &Option<Text>) -> Option<&[u8]>
+    ensures { option_map (λ bytes. bytes.now) result ≡ text.now }
+{
+    match text {
+        Some(text) => Some(text.as_slice()),
+        None => None,
+    }
+}
+
+/// The command's answer to the bytes of its file, of its journal and of its input.
+fn answer_of(
+    alloc: Global,
+    command: &Command,
+    file: Vec<u8>,
+    journal: Option<&[u8]>,
+    input: &[u8],
+) -> Result<Answer, AllocError>
+    requires { IsCommand command.now }
+    ensures { IfOk result (IsAnswer command.now file.items (option_map (λ text. text.now) journal.entry) input.now) }
+{
+    let stored = stored_answer_of(alloc, command, file, journal, input)?;
+    Ok(shown(alloc, command.print, stored))
+}
+
+/// The answer as a command gives it, with `--print` or without.
+fn shown(alloc: Global, print: bool, answer: Answer) -> Answer
+    ensures { result ≡ shown print answer }
+{
+    if print {
+        return printed(alloc, answer);
+    }
+    answer
+}
+
+/// The new file, if there is one, becomes the output, and nothing is stored.
+fn printed(alloc: Global, answer: Answer) -> Answer
+    ensures { result ≡ printed answer }
+{
+    let Outcome {
+        file,
+        journal: _journal,
+        message,
+        status,
+    } = answer.outcome;
+    Answer {
+        output: file.unwrap_or(Text::empty(alloc)),
+        outcome: outcome_of(message, status),
+    }
+}
+
+/// The command's answer when what is new is to be stored.
+fn stored_answer_of(
+    alloc: Global,
+    command: &Command,
+    file: Vec<u8>,
+    journal: Option<&[u8]>,
+    input: &[u8],
+) -> Result<Answer, AllocError>
+    requires { IsCommand command.now }
+    ensures { IfOk result (IsStoredAnswer command.now file.items (option_map (λ text. text.now) journal.entry) input.now) }
+{
+    match command.verb() {
+        Some(verb) => answer_verb(alloc, verb, command, file, journal, input),
+        None => unreachable!(),
+    }
+}
+
+/// What each command answers.
+fn answer_verb(
+    alloc: Global,
+    verb: Verb,
+    command: &Command,
+    file: Vec<u8>,
+    journal: Option<&[u8]>,
+    input: &[u8],
+) -> Result<Answer, AllocError>
+    requires { HasItsWords (shape verb) command.now }
+    ensures { IfOk result (Answers verb command.now file.items (option_map (λ text. text.now) journal.entry) input.now) }
+{
+    let new_journal = command.new_journal;
+    match verb {
+        Verb::Asks(question) => answer_question(alloc, question, command, file),
+        Verb::Cat => answer_cat(alloc, file),
+        Verb::Lint => answer_lint(alloc, word(command, 0), file.as_slice()),
+        Verb::Names => {
+            let (key, template) = (word(command, 1), word(command, 2));
+            answer_names(alloc, file, key, command.depth, template)
+        }
+        Verb::Explain => answer_explain(alloc, word(command, 0)),
+        Verb::Edit => answer_edits(alloc, command, file, journal, input),
+        Verb::Import => answer_import(alloc, file, journal, new_journal, input),
+        Verb::Undo => answer_undo(alloc, file, journal, command.n as usize),
+        Verb::Redo => answer_redo(alloc, file, journal, command.n as usize),
+        Verb::Log => answer_log(alloc, file, journal),
+        Verb::Forget => answer_forget(alloc, file),
+    }
+}
+
+/// What each command that reads a file alone answers to what the file says.
+fn answer_question(
+    alloc: Global,
+    question: Question,
+    command: &Command,
+    file: Vec<u8>,
+) -> Result<Answer, AllocError>
+    requires { HasItsWords (question_shape question) command.now }
+    ensures { IfOk result (AnswersFile (question_answer question command.now) file.items) }
+{
+    let (depth, n) = (command.depth, command.n);
+    match question {
+        Question::Check => answer_check(alloc, file),
+        Question::Show => answer_show(alloc, file, word(command, 1), depth),
+        Question::Cite => answer_cite(alloc, file, words_after_file(command), n),
+        Question::Labels => answer_labels(alloc, file, words_after_file(command), depth),
+        Question::Json => answer_json(alloc, file, words_after_file(command), depth),
+        Question::NewKeys => answer_newkeys(alloc, file, depth),
+        Question::Ris => {
+            let keys = words_after_file(command);
+            answer_ris(alloc, file, keys, depth, command.dropped)
+        }
+    }
+}
+
+/// The command's word with this index.
+fn word(command: &Command, i: usize) -> &[u8]
+    requires { i < length command.now.words }
+    ensures { result.now ≡ slice_index_or command.now.words i [] }
+{
+    command.words.as_slice()[i].as_slice()
+}
+
+/// The words after the file.
+fn words_after_file(command: &Command) -> &[Text]
+    requires { 1 ≤ length command.now.words }
+    ensures { result.now ≡ key_words command.now }
+{
+    &command.words.as_slice()[1..]
+}
+
+/// What `edit` answers: to the words of one edit, or to a script if there are no words.
+fn answer_edits(
+    alloc: Global,
+    command: &Command,
+    file: Vec<u8>,
+    journal: Option<&[u8]>,
+    input: &[u8],
+) -> Result<Answer, AllocError>
+    requires { 1 ≤ length command.now.words }
+    ensures { IfOk result (IsEditsAnswer command.now file.items (option_map (λ text. text.now) journal.entry) input.now) }
+{
+    if command.words.as_slice().len() == 1 {
+        return answer_edit(alloc, file, journal, command.new_journal, input);
+    }
+    answer_words(
+        alloc,
+        file,
+        journal,
+        command.new_journal,
+        words_after_file(command),
+    )
+}

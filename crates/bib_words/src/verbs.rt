@@ -1,0 +1,212 @@
+//! The commands as data: what each takes and reads.
+
+ghost use Rattle.std.specs.Prelude.{◌≡◌, bytes_eq};
+ghost use Rattle.bib_words.specs.Verbs.{adds_change, makes_file, reads_journal, takes_input, takes_dropped, question_shape, shape, verb_of};
+
+/// A command that answers what its file says, and reads nothing else.
+#[derive(Clone, Copy, Debug, PartialEq, Eq)]
+pub enum Question {
+    Check,
+    Show,
+    Cite,
+    Labels,
+    Json,
+    NewKeys,
+    Ris,
+}
+
+/// A command of the program.
+#[derive(Clone, Copy, Debug, PartialEq, Eq)]
+pub enum Verb {
+    Asks(Question),
+    Cat,
+    Lint,
+    Names,
+    Explain,
+    Edit,
+    Undo,
+    Redo,
+    Log,
+    Forget,
+    Import,
+}
+
+/// What a command takes: how many arguments, the file among them, and whether a number or a depth.
+#[derive(Clone, Copy)]
+pub struct Shape {
+    pub least: usize,
+    pub most: Option<usize>,
+    pub number: bool,
+    pub depth: bool,
+}
+
+/// One argument and nothing else: `check F`.
+const ALONE: Shape = Shape {
+    least: 1,
+    most: Some(1),
+    number: false,
+    depth: false,
+};
+
+/// A file, one key or more, and a depth: `labels F KEY..`.
+const KEYS: Shape = Shape {
+    least: 2,
+    most: None,
+    number: false,
+    depth: true,
+};
+
+/// Whether the name is this word, byte for byte.
+fn is(name: &[u8], word: &[u8]) -> bool
+    ensures { result ≡ bytes_eq name.now word.now }
+{
+    name == word
+}
+
+impl Verb {
+    /// The command with this name, or none if the program has no such command.
+    pub fn of(name: &[u8]) -> Option<Self>
+        ensures { result ≡ verb_of name.now }
+    {
+        if is(name, b"cat") {
+            return Some(Verb::Cat);
+        }
+        if is(name, b"check") {
+            return Some(Verb::Asks(Question::Check));
+        }
+        if is(name, b"lint") {
+            return Some(Verb::Lint);
+        }
+        if is(name, b"show") {
+            return Some(Verb::Asks(Question::Show));
+        }
+        if is(name, b"cite") {
+            return Some(Verb::Asks(Question::Cite));
+        }
+        if is(name, b"labels") {
+            return Some(Verb::Asks(Question::Labels));
+        }
+        if is(name, b"json") {
+            return Some(Verb::Asks(Question::Json));
+        }
+        if is(name, b"names") {
+            return Some(Verb::Names);
+        }
+        if is(name, b"newkeys") {
+            return Some(Verb::Asks(Question::NewKeys));
+        }
+        if is(name, b"edit") {
+            return Some(Verb::Edit);
+        }
+        if is(name, b"undo") {
+            return Some(Verb::Undo);
+        }
+        if is(name, b"redo") {
+            return Some(Verb::Redo);
+        }
+        if is(name, b"log") {
+            return Some(Verb::Log);
+        }
+        if is(name, b"forget") {
+            return Some(Verb::Forget);
+        }
+        if is(name, b"ris") {
+            return Some(Verb::Asks(Question::Ris));
+        }
+        if is(name, b"import") {
+            return Some(Verb::Import);
+        }
+        if is(name, b"explain") {
+            return Some(Verb::Explain);
+        }
+        None
+    }
+
+    /// Whether the command adds a change to its file.
+    pub fn adds_change(self) -> bool
+        ensures { result ≡ adds_change self }
+    {
+        matches!(self, Verb::Edit | Verb::Import)
+    }
+
+    /// Whether the command makes a new file from the old one.
+    pub fn makes_file(self) -> bool
+        ensures { result ≡ makes_file self }
+    {
+        matches!(self, Verb::Edit | Verb::Import | Verb::Undo | Verb::Redo)
+    }
+
+    /// Whether the command reads the journal of its file.
+    pub fn reads_journal(self) -> bool
+        ensures { result ≡ reads_journal self }
+    {
+        self.makes_file() || matches!(self, Verb::Log)
+    }
+
+    /// Whether the command with this number of arguments reads standard input as well as its file.
+    pub fn takes_input(self, words: usize) -> bool
+        ensures { result ≡ takes_input self words }
+    {
+        match self {
+            Verb::Import => true,
+            Verb::Edit => words == 1,
+            _ => false,
+        }
+    }
+
+    /// Whether the command takes `--dropped`.
+    pub fn takes_dropped(self) -> bool
+        ensures { result ≡ takes_dropped self }
+    {
+        matches!(self, Verb::Asks(Question::Ris))
+    }
+
+    /// What the command takes.
+    pub(crate) fn shape(self) -> Shape
+        ensures { result ≡ shape self }
+    {
+        match self {
+            Verb::Asks(question) => question.shape(),
+            Verb::Cat => Shape { least: 0, ..ALONE },
+            Verb::Names => Shape {
+                least: 3,
+                most: Some(3),
+                ..KEYS
+            },
+            Verb::Edit => Shape {
+                most: None,
+                ..ALONE
+            },
+            Verb::Undo | Verb::Redo => Shape {
+                number: true,
+                ..ALONE
+            },
+            _ => ALONE,
+        }
+    }
+}
+
+impl Question {
+    /// What the command takes.
+    fn shape(self) -> Shape
+        ensures { result ≡ question_shape self }
+    {
+        match self {
+            Question::Check => ALONE,
+            Question::Show => Shape {
+                most: Some(2),
+                ..KEYS
+            },
+            Question::Cite => Shape {
+                number: true,
+                depth: false,
+                ..KEYS
+            },
+            Question::Labels | Question::Json | Question::Ris => KEYS,
+            Question::NewKeys => Shape {
+                depth: true,
+                ..ALONE
+            },
+        }
+    }
+}
