@@ -2,10 +2,12 @@
 //! decided here: `bib_command` reads the words, and `bib_run` knows what a command does.
 #![tactic(auto)]
 
-ghost use Rattle.std.specs.Prelude.{◌≡◌, ◌≢◌, Some, IfOk, pos, slice_get, option_map};
+ghost use Rattle.std.specs.Prelude.{◌≡◌, ◌≢◌, false, Some, IfOk, pos, slice_get, option_map};
 ghost use Rattle.std.specs.Option.{option_copied};
 ghost use Rattle.std.specs.Fd.{file_raw_fd};
 ghost use Rattle.bib_words.specs.Command.{IsCommand, TakesInput};
+ghost use Rattle.bib_taps.specs.Taps.{tap_inner, has_failed};
+ghost use Rattle.bib_streams.specs.Heard.{heard_inner, kept_inner};
 ghost use Rattle.bib_run.specs.Runs.{RanOver, fresh, view_of};
 ghost use Rattle.bibkeep.specs.Ending.{IsFinished, EndsFor};
 
@@ -114,9 +116,7 @@ fn run_opened(
     let ran = run_over(rt, alloc, command, hints, file, journal);
     let finished = finish(rt, alloc, path, &ran);
     say_hints(rt, alloc, command, hints, &ran);
-    if let Some(error) = finished.unstored {
-        say_unstored(rt, alloc, hints, path.as_bytes(), error.kind());
-    }
+    say_unstored(rt, alloc, hints, path.as_bytes(), finished.unstored);
     finished.status
 }
 
@@ -198,9 +198,9 @@ where
     ensures { RanOver command.now (F.remaining file) (option_map J.remaining journal) result.outcome }
 {
     invite(rt, alloc, command, hints);
-    let mut file = Tap::new(Kept::new(alloc, Heard::new(file), hints));
+    let mut file = watched(alloc, file, hints);
     let mut journal = over(journal);
-    let mut input = Tap::new(Kept::new(alloc, Heard::new(rt.stdin()), hints));
+    let mut input = watched(alloc, rt.stdin(), hints);
     let mut out = output(rt, command.is_named(b"lint"));
     let outcome = run(
         alloc,
@@ -214,6 +214,16 @@ where
         outcome,
         streams: Streams::of(file.into_inner(), input.into_inner(), out.into_inner()),
     }
+}
+
+/// A new tap over the source, whose bytes are kept if `keeps`.
+fn watched<R: Read>(alloc: Global, source: R, keeps: bool) -> Tap<Kept<Heard<R>>>
+where
+    R: Drop,
+    ensures inner { heard_inner (kept_inner (tap_inner result)) ≡ source }
+    ensures fault { has_failed result ≡ false }
+{
+    Tap::new(Kept::new(alloc, Heard::new(source), keeps))
 }
 
 /// A new tap over the source, if there is one.

@@ -156,10 +156,19 @@ pub fn say_trouble(
     }
 }
 
-/// Says why the file or its journal could not be stored.
-pub fn say_unstored(rt: &HostRuntime, alloc: Global, may_hint: bool, on: &[u8], kind: ErrorKind) {
-    if may_hint {
-        say(rt, hints_of_storing(alloc, Trouble { on, kind }));
+/// Says why the file or its journal could not be stored, if it could not.
+pub fn say_unstored(
+    rt: &HostRuntime,
+    alloc: Global,
+    may_hint: bool,
+    on: &[u8],
+    error: Option<io::Error>,
+) {
+    if let Some(error) = error {
+        if may_hint {
+            let kind = error.kind();
+            say(rt, hints_of_storing(alloc, Trouble { on, kind }));
+        }
     }
 }
 
