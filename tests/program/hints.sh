@@ -63,10 +63,11 @@ when explain --hints foo; ends_with 1; hinted '13 NoSuchFault' '  foo is neither
 when undo hinted.bib --hints; ends_with 1; hinted '51 NothingToUndo' '  bibkeep log hinted.bib lists the changes'
 
 # A line of a script: the words are those of the line, and the file has the edits before it.
+cp hinted.bib scripted.bib
 given hinted.script 'add\t0\tmisc\tnew\nremove\tnew\r\nremove\tnew\n'
-input=hinted.script; when edit hinted.bib --hints; ends_with 1; says "bibkeep: line 3: 35 NotFound
-  no entry of hinted.bib has the key new
-  bibkeep cite hinted.bib '*' lists the keys
+input=hinted.script; when edit scripted.bib --hints; ends_with 1; says "bibkeep: line 3: 35 NotFound
+  no entry of scripted.bib has the key new
+  bibkeep cite scripted.bib '*' lists the keys
   bibkeep explain 35 says more"
 given hinted.script '@article{x, title={y}}\n'
 input=hinted.script; when edit hinted.bib --hints; ends_with 1; says 'bibkeep: line 1: 71 BadScript

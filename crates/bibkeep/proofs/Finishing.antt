@@ -1,11 +1,6 @@
 -- How the program ends.
-use Rattle.std.proofs.Common.{◌≡◌, ℕ, Bool, true, false, Option, None, option_map, refl, sym, ◌∙◌, ap, ap₂, subst, if◌then◌else◌}
+use Rattle.std.proofs.Common.{◌≡◌, ℕ, Bool, true, false, Option, None, option_map, refl, sym, ◌∙◌, ap₂, subst, if◌then◌else◌}
 use Rattle.bib_spec.specs.Text.{Text}
-use Rattle.bib_taps.specs.declared.taps.Tap.{Tap}
-use Rattle.bib_taps.specs.Taps.{tap_inner}
-use Rattle.bib_streams.specs.declared.kept.Kept.{Kept}
-use Rattle.bib_streams.specs.declared.heard.Heard.{Heard}
-use Rattle.bib_streams.specs.Heard.{kept_inner, heard_inner}
 use Rattle.bib_words.specs.declared.commands.Command.{Command}
 use Rattle.bib_answers.specs.declared.answers.Outcome.{Outcome}
 use Rattle.bib_run.specs.Runs.{TapView, TapsView, IsRun, taps, fresh}
@@ -19,12 +14,6 @@ new_tap bytes told failed is sound = ap₂ (λ (b : Option Text) (f : Bool). rec
 pub none_either : (b : Bool) → ◌≡◌ {A = Option Text} (if b then None else None) None
 none_either true = refl
 none_either false = refl
-
--- what is still to be read is that of the reader below
-pub remaining_is : {R : Type 0} (remaining : R → Option Text) (tap : Tap (Kept (Heard R))) (kept : Kept (Heard R)) (heard : Heard R) (reader : R)
-    → tap_inner tap ≡ kept → kept_inner kept ≡ heard → heard_inner heard ≡ reader → remaining (heard_inner (kept_inner (tap_inner tap))) ≡ remaining reader
-remaining_is remaining tap kept heard reader is_kept is_heard is_reader =
-    ap (λ k. remaining (heard_inner (kept_inner k))) is_kept ∙ ap (λ h. remaining (heard_inner h)) is_heard ∙ ap remaining is_reader
 
 -- a run over new taps
 pub ran_over : (command : Command) (file : Option Text) (journal : Option (Option Text)) (a : TapView) (b : Option TapView) (c d : TapView) (now : TapsView) (outcome : Outcome)

@@ -2,9 +2,11 @@
 //! decided here: `bib_command` reads the words, and `bib_run` knows what a command does.
 #![tactic(auto)]
 
-ghost use Rattle.std.specs.Prelude.{◌≡◌, ◌≢◌, Some, IfOk, pos, slice_get, option_map};
+ghost use Rattle.std.specs.Prelude.{◌≡◌, false, option_map};
 ghost use Rattle.std.specs.Option.{option_copied};
 ghost use Rattle.bib_words.specs.Command.{IsCommand};
+ghost use Rattle.bib_taps.specs.Taps.{tap_inner, has_failed};
+ghost use Rattle.bib_streams.specs.Heard.{heard_inner, kept_inner};
 ghost use Rattle.bib_run.specs.Runs.{fresh, view_of};
 ghost use Rattle.bibkeep.specs.Ending.{RanHere, RanAndFinished, RanAlone};
 
@@ -117,7 +119,7 @@ fn run_opened(
         && let Err(error) = expect_room(rt, file, paths)
     {
         let status = end(&mut errors(rt), WRITE_FAULT, status::FAULT);
-        say_unstored(rt, alloc, command, hints, error.kind());
+        say_unstored(rt, alloc, command, hints, Some(error));
         return status;
     }
     let mut disk = Disk { rt, file };
@@ -156,9 +158,7 @@ where
     let is_closed = ran.streams.is_closed();
     let finished = finish(folder, &mut errors(rt), paths, &ran.outcome, is_closed);
     say_hints(rt, alloc, command, hints, &ran);
-    if let Some(error) = finished.unstored {
-        say_unstored(rt, alloc, command, hints, error.kind());
-    }
+    say_unstored(rt, alloc, command, hints, finished.unstored);
     finished.status
 }
 
@@ -178,9 +178,9 @@ where
     ensures { RanHere command.now (F.remaining file) (option_map J.remaining journal) result.outcome }
 {
     invite(rt, alloc, command, hints);
-    let mut file = Tap::new(Kept::new(alloc, Heard::new(file), hints));
+    let mut file = watched(alloc, file, hints);
     let mut journal = over(journal);
-    let mut input = Tap::new(Kept::new(alloc, Heard::new(rt.stdin()), hints));
+    let mut input = watched(alloc, rt.stdin(), hints);
     let mut out = output(rt, command.is_named(b"lint"));
     let outcome = run(
         alloc,
@@ -194,6 +194,16 @@ where
         outcome,
         streams: Streams::of(file.into_inner(), input.into_inner(), out.into_inner()),
     }
+}
+
+/// A new tap over the source, whose bytes are kept if `keeps`.
+fn watched<R: Read>(alloc: Global, source: R, keeps: bool) -> Tap<Kept<Heard<R>>>
+where
+    R: Drop,
+    ensures inner { heard_inner (kept_inner (tap_inner result)) ≡ source }
+    ensures fault { has_failed result ≡ false }
+{
+    Tap::new(Kept::new(alloc, Heard::new(source), keeps))
 }
 
 /// A new tap over the source, if there is one.

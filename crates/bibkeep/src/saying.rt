@@ -160,17 +160,22 @@ pub fn say_trouble(
     }
 }
 
-/// Says why the file or its journal could not be stored.
+/// Says why the file or its journal could not be stored, if it could not.
 pub fn say_unstored(
     rt: &HostRuntime,
     alloc: Global,
     command: &Command,
     may_hint: bool,
-    kind: ErrorKind,
+    error: Option<io::Error>,
 ) {
-    if may_hint {
-        let on = file_of(command);
-        say(rt, hints_of_storing(alloc, Trouble { on, kind }));
+    if let Some(error) = error {
+        if may_hint {
+            let trouble = Trouble {
+                on: file_of(command),
+                kind: error.kind(),
+            };
+            say(rt, hints_of_storing(alloc, trouble));
+        }
     }
 }
 
