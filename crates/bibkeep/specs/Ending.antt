@@ -37,3 +37,11 @@ pub record RanAlone (command : Command) (source : Option Text) (status : ℕ) : 
   pub outcome : Outcome
   pub ran : RanHere command source None outcome
   pub is : status ≡ outcome.status
+
+-- The program ends with this status for this command: the status of a run of the command; or 3 if the file could not be opened or
+-- nothing could be stored, 4 if memory was refused, 2 if its words are no path.
+pub data EndsFor (command : Command) (status : ℕ) : Type 0 where
+  ran : (file : Option Text) (journal : Option (Option Text)) (outcome : Outcome) → RanHere command file journal outcome → status ≡ outcome.status → EndsFor command status
+  no_path : status ≡ 2 → EndsFor command status
+  fault : status ≡ 3 → EndsFor command status
+  no_memory : status ≡ 4 → EndsFor command status

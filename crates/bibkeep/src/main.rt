@@ -6,7 +6,7 @@ ghost use Rattle.std.specs.Prelude.{◌≡◌, ◌≢◌, Some, IfOk, pos, slice
 ghost use Rattle.std.specs.Option.{option_copied};
 ghost use Rattle.bib_words.specs.Command.{IsCommand};
 ghost use Rattle.bib_run.specs.Runs.{fresh, view_of};
-ghost use Rattle.bibkeep.specs.Ending.{RanHere, RanAndFinished, RanAlone};
+ghost use Rattle.bibkeep.specs.Ending.{RanHere, RanAndFinished, RanAlone, EndsFor};
 
 mod disk;
 mod endings;
@@ -55,6 +55,7 @@ fn answer_words(rt: &HostRuntime, alloc: Global) -> u8 {
 /// reads neither. What is new is put in its place.
 fn perform(rt: &HostRuntime, alloc: Global, command: &Command) -> u8
     requires { IsCommand command.now }
+    ensures { EndsFor command.now result }
 {
     if command.is_named(b"explain") {
         return run_alone(rt, alloc, command, b"".as_slice());
@@ -86,6 +87,7 @@ where
 /// place of the journal is read as an empty text, which is no journal.
 fn run_opened(rt: &HostRuntime, alloc: Global, command: &Command, opened: &Opened) -> u8
     requires { IsCommand command.now }
+    ensures { EndsFor command.now result }
 {
     let file = &opened.file;
     let paths = opened.paths.as_ref();
