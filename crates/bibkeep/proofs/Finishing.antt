@@ -1,10 +1,12 @@
 -- How the program ends.
-use Rattle.std.proofs.Common.{◌≡◌, ℕ, Bool, true, false, Option, None, option_map, refl, sym, ◌∙◌, ap₂, subst, if◌then◌else◌}
+use Rattle.std.proofs.Common.{◌≡◌, ℕ, Bool, true, false, Option, Some, None, option_map, refl, sym, ◌∙◌, ap₂, subst, if◌then◌else◌}
 use Rattle.bib_spec.specs.Text.{Text}
 use Rattle.bib_words.specs.declared.commands.Command.{Command}
 use Rattle.bib_answers.specs.declared.answers.Outcome.{Outcome}
 use Rattle.bib_run.specs.Runs.{TapView, TapsView, IsRun, taps, fresh}
-use Rattle.bibkeep.specs.Ending.{RanHere}
+use Rattle.bib_files.specs.Folders.{Files, Told}
+use Rattle.bib_files.specs.Storing.{Paths, AreStored, AreUnstored}
+use Rattle.bibkeep.specs.Ending.{RanHere, IsFinished, EndsFor, leaves_some}
 
 -- a tap that was not called yet
 pub new_tap : (bytes told : Option Text) (failed : Bool) → bytes ≡ told → failed ≡ false → ◌≡◌ {A = TapView} (record { bytes = bytes; failed = failed }) (fresh told)
@@ -25,3 +27,26 @@ ran_over command file journal a b c d now outcome ran is_file is_journal is_inpu
       (subst (λ (t : Option TapView). IsRun command (taps (fresh file) t c d) now outcome) is_journal
       (subst (λ (t : TapView). IsRun command (taps t b c d) now outcome) is_file ran)));
 }
+
+-- a run that is finished ends as the command does
+pub ends_so : (command : Command) (paths : Option Paths) (file : Option Text) (journal : Option (Option Text)) (outcome : Outcome) (status : ℕ) (old new : Option Files)
+    → RanHere command file journal outcome → IsFinished paths outcome status old new → EndsFor command status
+ends_so command paths file journal outcome status old new ran (IsFinished.stored at place is told) = EndsFor.ran file journal outcome ran is
+ends_so command paths file journal outcome status old new ran (IsFinished.nothing none is same) = EndsFor.ran file journal outcome ran is
+ends_so command paths file journal outcome status old new ran (IsFinished.unstored at place some is told) = EndsFor.fault is
+ends_so command paths file journal outcome status old new ran (IsFinished.no_place none some is same) = EndsFor.fault is
+
+-- all that the outcome leaves is in place, if the bytes that were stored are those that it leaves
+pub stored_so : (paths : Option Paths) (at : Paths) (outcome : Outcome) (status : ℕ) (file journal : Option Text) (old new : Option Files)
+    → paths ≡ Some at → status ≡ outcome.status → file ≡ outcome.file → journal ≡ outcome.journal → Told (AreStored at file journal) old new
+    → IsFinished paths outcome status old new
+stored_so paths at outcome status file journal old new place is is_file is_journal told =
+    IsFinished.stored at place is (subst (λ (f : Option Text). Told (AreStored at f outcome.journal) old new) is_file
+      (subst (λ (j : Option Text). Told (AreStored at file j) old new) is_journal told))
+
+-- what the outcome leaves could not be stored
+pub unstored_so : (paths : Option Paths) (at : Paths) (outcome : Outcome) (status : ℕ) (file : Option Text) (old new : Option Files)
+    → paths ≡ Some at → leaves_some outcome ≡ true → status ≡ 3 → file ≡ outcome.file → Told (AreUnstored at file) old new
+    → IsFinished paths outcome status old new
+unstored_so paths at outcome status file old new place some is is_file told =
+    IsFinished.unstored at place some is (subst (λ (f : Option Text). Told (AreUnstored at f) old new) is_file told)

@@ -8,7 +8,7 @@ ghost use Rattle.bib_words.specs.Command.{IsCommand};
 ghost use Rattle.bib_taps.specs.Taps.{tap_inner, has_failed};
 ghost use Rattle.bib_streams.specs.Heard.{heard_inner, kept_inner};
 ghost use Rattle.bib_run.specs.Runs.{fresh, view_of};
-ghost use Rattle.bibkeep.specs.Ending.{RanHere, RanAndFinished, RanAlone};
+ghost use Rattle.bibkeep.specs.Ending.{RanHere, RanAndFinished, RanAlone, EndsFor};
 
 mod disk;
 mod endings;
@@ -62,6 +62,7 @@ fn answer_words(rt: &HostRuntime, alloc: Global) -> u8 {
 /// reads neither. What is new is put in its place. With `hints`, hints follow a message.
 fn perform(rt: &HostRuntime, alloc: Global, command: &Command, hints: bool) -> u8
     requires { IsCommand command.now }
+    ensures { EndsFor command.now result }
 {
     if command.is_named(b"explain") {
         return run_alone(rt, alloc, command, hints, b"".as_slice());
@@ -93,7 +94,8 @@ fn run_alone<F: Read>(
 where
     F: Drop,
     requires { IsCommand command.now }
-    ensures { RanAlone command.now (F.remaining source) result }
+    ensures ran { RanAlone command.now (F.remaining source) result }
+    ensures ends { EndsFor command.now result }
 {
     let ran = run_over(rt, alloc, command, hints, source, None::<File>);
     let status = end_run(&mut errors(rt), &ran.outcome, ran.streams.is_closed());
@@ -111,6 +113,7 @@ fn run_opened(
     opened: &Opened,
 ) -> u8
     requires { IsCommand command.now }
+    ensures { EndsFor command.now result }
 {
     let file = &opened.file;
     let paths = opened.paths.as_ref();
@@ -152,7 +155,8 @@ where
     F: Drop,
     J: Drop,
     requires { IsCommand command.now }
-    ensures { RanAndFinished command.now (option_copied paths.entry) (F.remaining file) (option_map J.remaining journal) result (D.files folder.old) (D.files folder.new) }
+    ensures ends { EndsFor command.now result }
+    ensures finished { RanAndFinished command.now (option_copied paths.entry) (F.remaining file) (option_map J.remaining journal) result (D.files folder.old) (D.files folder.new) }
 {
     let ran = run_over(rt, alloc, command, hints, file, journal);
     let is_closed = ran.streams.is_closed();

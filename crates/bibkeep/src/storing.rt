@@ -1,8 +1,8 @@
 //! Says how a run over a file ended, and puts in place what it leaves.
 
-ghost use Rattle.std.specs.Prelude.{◌≡◌};
+ghost use Rattle.std.specs.Prelude.{◌≡◌, is_some};
 ghost use Rattle.std.specs.Option.{option_copied, option_map};
-ghost use Rattle.bibkeep.specs.Ending.{IsFinished};
+ghost use Rattle.bibkeep.specs.Ending.{IsFinished, leaves_some};
 
 use crate::endings::{end, end_run};
 use bib_files::{Folder, Paths, store};
@@ -32,9 +32,7 @@ pub fn finish<D: Folder, E: Write>(
     ensures { IsFinished (option_copied paths.entry) outcome.now result.status (D.files folder.old) (D.files folder.new) }
 {
     let status = end_run(errors, outcome, is_closed);
-    let file = bytes_of(&outcome.file);
-    let journal = bytes_of(&outcome.journal);
-    if file.is_none() && journal.is_none() {
+    if !leaves_some(outcome) {
         return Finished {
             status,
             unstored: None,
@@ -46,6 +44,8 @@ pub fn finish<D: Folder, E: Write>(
             unstored: None,
         };
     };
+    let file = bytes_of(&outcome.file);
+    let journal = bytes_of(&outcome.journal);
     match store(folder, paths, file, journal) {
         Ok(()) => Finished {
             status,
@@ -55,6 +55,23 @@ pub fn finish<D: Folder, E: Write>(
             status: end(errors, WRITE_FAULT, status::FAULT),
             unstored: Some(error),
         },
+    }
+}
+
+/// Whether the outcome leaves something to be put in place.
+fn leaves_some(outcome: &Outcome) -> bool
+    ensures { result ≡ leaves_some outcome.now }
+{
+    is_there(&outcome.file) || is_there(&outcome.journal)
+}
+
+/// Whether there is a text.
+fn is_there(text: &Option<Text>) -> bool
+    ensures { result ≡ is_some text.now }
+{
+    match text {
+        Some(_) => true,
+        None => false,
     }
 }
 
