@@ -48,7 +48,9 @@ input=too_long.bib; when cat; ends_with 1; writes_nothing; says 'bibkeep: 9 File
 input=/dev/zero; when cat; ends_with 1; writes_nothing; says 'bibkeep: 9 FileTooLong at 16777216'
 
 # Memory may be limited.
-when_shell_runs 'ulimit -v 16000; "$program" cat longest.bib'; ends_with 4; writes_nothing; says 'bibkeep: 10 Memory'
+if can run_in_16_MB; then
+    when_shell_runs 'ulimit -v 16000; "$program" cat longest.bib'; ends_with 4; writes_nothing; says 'bibkeep: 10 Memory'
+fi
 
 # A file that cannot be opened or read is a read fault.
 when cat nothing.bib; ends_with 3; writes_nothing; says 'bibkeep: read fault'
@@ -57,11 +59,15 @@ when cat folder; ends_with 3; writes_nothing; says 'bibkeep: read fault'
 when cat row.bib/below; ends_with 3; writes_nothing; says 'bibkeep: read fault'
 when cat dangling.bib; ends_with 3; writes_nothing; says 'bibkeep: read fault'
 input=folder; when cat; ends_with 3; writes_nothing; says 'bibkeep: read fault'
-when_shell_runs '"$program" cat <&-'; ends_with 3; writes_nothing; says 'bibkeep: read fault'
+if can keep_streams_closed; then
+    when_shell_runs '"$program" cat <&-'; ends_with 3; writes_nothing; says 'bibkeep: read fault'
+fi
 
 # An output that takes no more is a write fault.
 when_shell_runs '"$program" cat row.bib >/dev/full'; ends_with 3; says 'bibkeep: write fault'
-when_shell_runs '"$program" cat row.bib >&-'; ends_with 3; says 'bibkeep: write fault'
+if can keep_streams_closed; then
+    when_shell_runs '"$program" cat row.bib >&-'; ends_with 3; says 'bibkeep: write fault'
+fi
 when_shell_runs '{ "$program" cat longest.bib; echo $? >seen/status; } | head -c 1; exit "$(cat seen/status)"'; ends_with 3; says 'bibkeep: write fault'
 when_shell_runs '"$program" cat empty.bib >/dev/full'; ends_with 0; says_nothing
 

@@ -49,4 +49,6 @@ when check longest_text.bib; ends_with 0; prints 'items 21\nentries 0\nmacros 21
 when check too_long_text.bib; ends_with 1; writes_nothing; says 'bibkeep: 8 TextTooLong at 482'
 when check huge_text.bib; ends_with 1; writes_nothing; says 'bibkeep: 8 TextTooLong at 482'
 when cat too_long_text.bib; ends_with 0; writes too_long_text.bib; says_nothing
-when_shell_runs 'yes | "$program" check /dev/stdin'; ends_with 1; writes_nothing; says 'bibkeep: 9 FileTooLong at 16777216'
+if [ -e /dev/stdin ]; then
+    when_shell_runs 'yes | "$program" check /dev/stdin'; ends_with 1; writes_nothing; says 'bibkeep: 9 FileTooLong at 16777216'
+fi

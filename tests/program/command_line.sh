@@ -34,7 +34,9 @@ when labels row.bib --depth two a; ends_with 2; writes_nothing; complains_of "'t
 when cite row.bib --depth 2 a; ends_with 2; writes_nothing; complains_of "'--depth'"
 when cite row.bib --min-crossrefs two a; ends_with 2; writes_nothing; complains_of "'two'"
 when --hel; ends_with 2; writes_nothing; complains_of "'--help'"
-when cat "$(printf 'caf\351.bib')"; ends_with 2; writes_nothing; complains_of 'not UTF-8'
+if can take_any_bytes; then
+    when cat "$(printf 'caf\351.bib')"; ends_with 2; writes_nothing; complains_of 'not UTF-8'
+fi
 
 # Whatever file it is started as, the program is bibkeep.
 when_shell_runs 'cp "$program" keep-1.0 && ./keep-1.0 --help'; ends_with 0; mentions 'Usage: bibkeep <COMMAND>'; says_nothing
@@ -49,4 +51,6 @@ if command -v python3 >/dev/null; then
 fi
 
 when_shell_runs '"$program" --help >/dev/full'; ends_with 3; says 'bibkeep: write fault'
-when_shell_runs '"$program" --version >&-'; ends_with 3; says 'bibkeep: write fault'
+if can keep_streams_closed; then
+    when_shell_runs '"$program" --version >&-'; ends_with 3; says 'bibkeep: write fault'
+fi

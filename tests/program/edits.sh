@@ -69,7 +69,7 @@ given_edit '@string{m = 1}\n@Article( a ,\n\tT = {x}  # m,\n  y="z" ,\n)\ntail @
 cp edited.bib before.bib
 given wanted 'applied 1\n'
 edit; ends_with 0; writes wanted; says_nothing
-when_shell_runs 'diff before.bib edited.bib | grep -c "^[<>]"'; given wanted '2\n'; writes wanted
+when_shell_runs 'diff -U 0 before.bib edited.bib | grep -c "^[-+][^-+]"'; prints '2\n'
 
 # The file keeps its permissions, and a symbolic link its place.
 given_edit '@misc{a}' 'set\ta\tt\t1\n'
@@ -108,8 +108,10 @@ limit_script 'set\ta\tt\t{x\n' '33 BadValue'
 # What cannot be opened, read or written is a fault.
 when edit nothing.bib; ends_with 3; writes_nothing; says 'bibkeep: read fault'
 given_edit '@misc{a}' ''
-when_shell_runs '"$program" edit edited.bib <&-'; ends_with 3; writes_nothing; says 'bibkeep: read fault'; leaves '@misc{a}'
-expect 'a journal was left' test ! -e edited.bib.bibkeep
+if can keep_streams_closed; then
+    when_shell_runs '"$program" edit edited.bib <&-'; ends_with 3; writes_nothing; says 'bibkeep: read fault'; leaves '@misc{a}'
+    expect 'a journal was left' test ! -e edited.bib.bibkeep
+fi
 when_shell_runs 'mkfifo pipe.bib; printf "@misc{a}" >pipe.bib & printf "set\ta\tt\t1\n" | "$program" edit pipe.bib; status=$?; test -p pipe.bib && exit $status'
 ends_with 3; says 'bibkeep: write fault'
 

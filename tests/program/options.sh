@@ -37,11 +37,14 @@ given_edit '@misc{a}' ''
 when edit edited.bib set a t "{$(printf '%300s' '' | tr ' ' x)}"; ends_with 0; prints 'applied 1\n'
 when_shell_runs '"$program" log edited.bib | cut -d " " -f 5- | tr -d "\n" | wc -c'; prints '255\n'
 given_edit '@misc{a}' ''
-when edit edited.bib set a t "{$(printf '%300s' '' | sed 's/ /\xc3\xa9/g')}"; ends_with 0; prints 'applied 1\n'
+accent=$(printf '\303\251')
+when edit edited.bib set a t "{$(printf '%300s' '' | sed "s/ /$accent/g")}"; ends_with 0; prints 'applied 1\n'
 when_shell_runs '"$program" log edited.bib | cut -d " " -f 5- | tr -d "\n" | wc -c'; prints '255\n'
-when_shell_runs '"$program" log edited.bib | iconv -f UTF-8 -t UTF-8 | wc -l'; prints '1\n'; says_nothing
+if command -v iconv >/dev/null; then
+    when_shell_runs '"$program" log edited.bib | iconv -f UTF-8 -t UTF-8 | wc -l'; prints '1\n'; says_nothing
+fi
 given_edit '@misc{a}' ''
-when edit edited.bib set a tt "{$(printf '%300s' '' | sed 's/ /\xc3\xa9/g')}"; ends_with 0; prints 'applied 1\n'
+when edit edited.bib set a tt "{$(printf '%300s' '' | sed "s/ /$accent/g")}"; ends_with 0; prints 'applied 1\n'
 when_shell_runs '"$program" log edited.bib | cut -d " " -f 5- | tr -d "\n" | wc -c'; prints '254\n'
 
 # Words that say no edit, and an edit that is refused; no line is told.
@@ -73,7 +76,7 @@ when edit edited.bib --print; ends_with 1; prints '@misc{a, t = 2,}\n'; says 'bi
 when edit edited.bib --print; ends_with 0; prints '@misc{a, t = 1,}\n'; says_nothing; has_no_journal
 when edit edited.bib --print drop a q; ends_with 1; writes_nothing; says 'bibkeep: 35 NotFound'; leaves '@misc{a, t = 1,}\n'; has_no_journal
 when edit edited.bib --print drop; ends_with 1; writes_nothing; says 'bibkeep: 71 BadScript'; leaves '@misc{a, t = 1,}\n'; has_no_journal
-when_shell_runs '"$program" edit edited.bib --print set a t 2 | diff edited.bib -'; ends_with 1; prints '1c1\n< @misc{a, t = 1,}\n---\n> @misc{a, t = 2,}\n'; says_nothing
+when_shell_runs '"$program" edit edited.bib --print set a t 2 | diff -U 0 edited.bib - | grep "^[-+]@" | cut -c 2-'; ends_with 0; prints '@misc{a, t = 1,}\n@misc{a, t = 2,}\n'; says_nothing
 when_shell_runs '"$program" edit edited.bib --print set a t 2 >/dev/full'; ends_with 3; says 'bibkeep: write fault'; leaves '@misc{a, t = 1,}\n'
 when edit edited.bib set a t 2; ends_with 0
 cp edited.bib.bibkeep wanted

@@ -148,5 +148,7 @@ given_edit '' 'inline\tm\n'
 { printf '@string{m={'; head -c 1000000 /dev/zero | tr '\0' x; printf '}}@misc{k'; yes ',t=m' | head -n 100000; printf '}'; } >edited.bib
 cp edited.bib before.bib
 given wanted 'applied 0\n'
-when_shell_runs 'ulimit -v 400000; "$program" edit edited.bib <script'; ends_with 1; writes wanted; says 'bibkeep: line 1: 9 FileTooLong'
+if can run_in_400_MB; then
+    when_shell_runs 'ulimit -v 400000; "$program" edit edited.bib <script'; ends_with 1; writes wanted; says 'bibkeep: line 1: 9 FileTooLong'
+fi
 when_shell_runs 'cmp before.bib edited.bib'; ends_with 0

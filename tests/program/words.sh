@@ -45,6 +45,13 @@ says() {
     expect "it does not say: $1" cmp -s seen/wanted seen/errors
 }
 
+# Whether what runs the program, as an emulator or Node, can do this; $lacks names what it cannot.
+can() {
+    case " ${lacks-} " in
+    *" $1 "*) return 1 ;;
+    esac
+}
+
 # ---- how cases are counted
 
 input=/dev/null

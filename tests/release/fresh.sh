@@ -6,7 +6,9 @@ export alone
 given_tree
 when_shell_runs '$alone tree/bibkeep cat <row.bib'; ends_with 0; writes row.bib; says_nothing
 when_shell_runs '$alone tree/bibkeep cat <row.bib'; ends_with 0; writes row.bib; says_nothing
-when_shell_runs 'cmp "$program" tree/release/out/bibkeep'; ends_with 0; writes_nothing; says_nothing
+when_shell_runs 'chmod -R a-w tree && $alone tree/bibkeep cat <row.bib; status=$?; chmod -R u+w tree; exit $status'; ends_with 0; writes row.bib; says_nothing
+given_tree
+when_shell_runs '(cd tree && find . -type f | sort) >before && $alone tree/bibkeep cat <row.bib >answer && (cd tree && find . -type f | sort) | comm -13 before -'; prints './release/out/sources\n'; says_nothing
 when_shell_runs 'cd tree && $alone ./bibkeep cat ../row.bib'; ends_with 0; writes row.bib; says_nothing
 when_shell_runs '$alone tree/bibkeep cat folder'; ends_with 3; writes_nothing; says 'bibkeep: read fault'
 when_shell_runs '$alone tree/bibkeep cat <&-'; ends_with 3; writes_nothing; says 'bibkeep: read fault'
@@ -42,8 +44,10 @@ still_answers_after 'mv tree/crates/low/specs/Lib.antt tree/crates/low/specs/Oth
 still_answers_after 'echo more >>tree/crates/low/src/lib.rt && touch -d "1 year ago" tree/crates/low/src/lib.rt'
 still_answers_after 'echo "bibkeep: low beside" >>tree/crates.txt'
 still_answers_after 'echo Threads >tree/HANDLES'
+still_answers_after 'echo "/* more */" >>tree/tools/static.c'
 says_nothing_after 'touch tree/crates/low/src/lib.rt'
 says_nothing_after 'echo more >>tree/crates/beside/src/lib.rt'
+says_nothing_after 'echo "# more" >>tree/tools/release'
 says_nothing_after 'echo more >>tree/crates/low/must-fail/a.edit'
 says_nothing_after 'mkdir tree/crates/low/out && echo more >tree/crates/low/out/more'
 says_nothing_after 'echo more >>tree/crates/low/src/lib.rt && $alone tree/bibkeep cat row.bib 2>&1 >/dev/null | grep -q changed && cp -p fits/crates/low/src/lib.rt tree/crates/low/src/lib.rt'

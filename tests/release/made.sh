@@ -4,8 +4,8 @@
 given_built_tree "$program"
 when_shell_runs 'tree/tools/release && diff -r fits/release tree/release'; ends_with 0; writes_nothing; says_nothing
 when_shell_runs 'rm -r tree/release && cp -R tree elsewhere && touch elsewhere/crates/bibkeep/out/bibkeep && elsewhere/tools/release && diff -r fits/release elsewhere/release'; ends_with 0; writes_nothing; says_nothing
-when_shell_runs 'cat elsewhere/release/SUMS | sed "s/ [0-9a-f]\{64\}$/ SUM/"'; prints 'program SUM\nc-library 2.34\ntoolchain a toolchain\nsources SUM\nfile HANDLES SUM\nfile crates.txt SUM\ncrate bibkeep SUM\ncrate low SUM\n'; says_nothing
-when_shell_runs 'gzip -dc elsewhere/release/bibkeep-x86_64-linux.gz | cmp - "$program"'; ends_with 0; writes_nothing; says_nothing
+when_shell_runs 'cat elsewhere/release/SUMS | sed "s/ [0-9a-f]\{64\}$/ SUM/"'; prints 'object x86_64-linux SUM\nbeside x86_64-linux SUM\nprogram x86_64-linux SUM\nobject aarch64-linux SUM\nbeside aarch64-linux SUM\nprogram aarch64-linux SUM\nobject wasm SUM\nbeside wasm SUM\nprogram wasm SUM\ntoolchain a toolchain\nsources SUM\nfile HANDLES SUM\nfile crates.txt SUM\nfile tools/heap.c SUM\nfile tools/static SUM\nfile tools/static.c SUM\nfile tools/wasm.c SUM\nfile tools/wasm.ll SUM\ncrate bibkeep SUM\ncrate low SUM\n'; says_nothing
+when_shell_runs 'cmp elsewhere/release/bibkeep-x86_64-linux "$program" && cmp elsewhere/release/bibkeep-aarch64-linux "$program" && cmp elsewhere/release/bibkeep.wasm "$program"'; ends_with 0; writes_nothing; says_nothing
 
 given_built_tree built
 when_shell_runs 'tree/tools/release && rm -r tree/crates/bibkeep/out && $alone tree/bibkeep new'; ends_with 0; prints 'built new\n'; says_nothing
@@ -15,6 +15,10 @@ given_tree
 when_shell_runs 'tree/tools/release'; ends_with 1; writes_nothing; says 'tools/release: no program was built in this tree: tools/build proves and builds it'
 given_built_tree built
 when_shell_runs 'sleep 0.1 && touch tree/crates/low/proofs/Lib.antt && tree/tools/release'; ends_with 1; writes_nothing; says 'tools/release: a source is newer than the program: tools/build proves and builds it anew'
+given_built_tree built
+printf '#!/bin/sh\necho "object $1 x"; exit 1\n' >tree/tools/static
+when_shell_runs 'tree/tools/release'; ends_with 1; writes_nothing; says_nothing
+when_shell_runs 'diff -r fits/release tree/release'; ends_with 0; writes_nothing; says_nothing
 given_built_tree built
 when_shell_runs 'RT=nowhere tree/tools/release'; ends_with 127; writes_nothing; complains_of 'nowhere'
 when_shell_runs 'diff -r fits/release tree/release'; ends_with 0; writes_nothing; says_nothing

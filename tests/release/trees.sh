@@ -6,7 +6,7 @@ mkdir folder
 
 # Runs a command with an empty environment, on a path with these commands of the system alone: neither rt nor python3.
 mkdir alone
-for name in awk basename cat chmod cp dirname find gzip mkdir mv rm sed sh sha256sum sort touch uname; do
+for name in awk basename cat chmod cp dirname find mkdir mv rm sed sh sha256sum sort touch uname; do
     ln -s "$(command -v "$name")" "alone/$name"
 done
 alone="env -i PATH=$work/alone"
@@ -21,11 +21,25 @@ esac
 '
 chmod 755 rt
 
+# In the place of tools/static: the program that was built is that of each target.
+given static '#!/bin/sh
+cd -- "$(dirname -- "$0")/.."
+mkdir -p crates/bibkeep/out/static
+sum=$(sha256sum <crates/bibkeep/out/bibkeep | cut -d " " -f 1)
+for target in "$@"; do
+    case $target in wasm) name=bibkeep.wasm ;; *) name=bibkeep-$target ;; esac
+    cp crates/bibkeep/out/bibkeep "crates/bibkeep/out/static/$name"
+    for word in object beside program; do echo "$word $target $sum"; done
+done
+'
+chmod 755 static
+
 # Copies what a clone of this tree has, but for its crates.
 copy_scripts() {
     mkdir -p "$1/tests"
     cp -R "$root/bibkeep" "$root/install" "$root/tools" "$root/man" "$root/completions" "$root/docs" "$root/README.md" "$root/HANDLES" "$1"
     cp -R "$root/tests/release" "$1/tests"
+    cp static "$1/tools/static"
 }
 
 # A small tree with a release that was made from its sources, of the program that was built in this one.
@@ -56,8 +70,9 @@ given_built_tree() {
 # Has the release state another value under a name.
 restate() { sed -i "s|^$1 .*|$1 $2|" tree/release/SUMS; }
 
-# Packs another program into the release, whose sum it states.
-pack() {
-    gzip -9nc "$1" >tree/release/bibkeep-x86_64-linux.gz
-    restate program "$(sha256sum <"$1" | cut -d ' ' -f 1)"
+# Puts another program into the release, whose sum it states.
+release() {
+    cp "$1" tree/release/bibkeep-x86_64-linux
+    chmod 755 tree/release/bibkeep-x86_64-linux
+    restate 'program x86_64-linux' "$(sha256sum <"$1" | cut -d ' ' -f 1)"
 }
