@@ -1,0 +1,71 @@
+-- Laws of extracts. Each is proved.
+use Rattle.std.specs.Prelude.{ℕ, ◌≡◌, ◌≤◌, true, false, Bool, List, map, Some, option_map}
+use Rattle.bib_spec.specs.Text.{Text}
+use Rattle.bib_spec.specs.Reading.{Item, Reading, Reads, bytes_of}
+use Rattle.bib_spec.specs.Records.{EntryTexts, entries_of, preambles_of, target, parent, expanded, cites_all, listed, unknown}
+use Rattle.extract_spec.specs.Extract.{keeps_for, kept, marked, picked, number_in, extract_from, extract_of}
+
+-- the trees of the extract are those of the kept items, in order
+abbrev pub trees_are_kept : Type 0
+trees_are_kept = (db : Reading) (keys : List Text) →
+    map (λ item. item.tree) (extract_of db keys).items ≡ map (λ item. item.tree) (marked (kept db keys) db.items)
+
+-- the extract is a reading of its bytes
+abbrev pub extract_reads : Type 0
+extract_reads = (file : Text) (db : Reading) (keys : List Text) → Reads file db → Reads (bytes_of (extract_of db keys)) (extract_of db keys)
+
+-- the extract of an extract that keeps all its entries is the extract itself
+abbrev pub extract_is_closed : Type 0
+extract_is_closed = (keeps : ℕ → Bool) (n m : ℕ) (items : List Item) → extract_from (λ k. true) m (extract_from keeps n items) ≡ extract_from keeps n items
+
+-- the entries of the extract are the kept entries of the file, with the texts that they have in the file
+abbrev pub entries_are_picked : Type 0
+entries_are_picked = (db : Reading) (keys : List Text) → entries_of (extract_of db keys) ≡ picked (keeps_for db keys) 0 (entries_of db)
+
+-- the preambles of the extract say what the preambles of the file say
+abbrev pub preambles_stay : Type 0
+preambles_stay = (db : Reading) (keys : List Text) → preambles_of (extract_of db keys) ≡ preambles_of db
+
+-- the target of each entry that is kept is kept
+abbrev pub IsClosed : (ℕ → Bool) → List EntryTexts → Type 0
+IsClosed keeps entries = (n t : ℕ) → keeps n ≡ true → target entries n ≡ Some t → keeps t ≡ true
+
+-- Each entry that is kept has, among the kept entries, the record that it has among all, at every depth; and the target and
+-- the parent that it has there, under their new numbers.
+pub record MeansAlike (keeps : ℕ → Bool) (entries : List EntryTexts) : Type 0 where
+  pub records : (depth n : ℕ) → keeps n ≡ true → expanded depth (picked keeps 0 entries) (number_in keeps 0 n) ≡ expanded depth entries n
+  pub targets : (n : ℕ) → keeps n ≡ true → target (picked keeps 0 entries) (number_in keeps 0 n) ≡ option_map (number_in keeps 0) (target entries n)
+  pub parents : (n : ℕ) → keeps n ≡ true → parent (picked keeps 0 entries) (number_in keeps 0 n) ≡ option_map (number_in keeps 0) (parent entries n)
+
+-- entries with all their targets mean among themselves what they mean among all
+abbrev pub closed_entries_mean_alike : Type 0
+closed_entries_mean_alike = (keeps : ℕ → Bool) (entries : List EntryTexts) → IsClosed keeps entries → MeansAlike keeps entries
+
+-- the entries that are kept for a list of keys are closed: every chain of parents is followed to its end
+abbrev pub kept_entries_are_closed : Type 0
+kept_entries_are_closed = (db : Reading) (keys : List Text) → IsClosed (keeps_for db keys) (entries_of db)
+
+-- The extract of a file keeps what its entries mean: entry n of the file is entry `number_in .. n` of the extract, with the same
+-- record at every depth, and with the same target and parent under their new numbers.
+pub record ExtractMeans (db : Reading) (keys : List Text) : Type 0 where
+  pub records : (depth n : ℕ) → keeps_for db keys n ≡ true → expanded depth (entries_of (extract_of db keys)) (number_in (keeps_for db keys) 0 n) ≡ expanded depth (entries_of db) n
+  pub targets : (n : ℕ) → keeps_for db keys n ≡ true → target (entries_of (extract_of db keys)) (number_in (keeps_for db keys) 0 n) ≡ option_map (number_in (keeps_for db keys) 0) (target (entries_of db) n)
+  pub parents : (n : ℕ) → keeps_for db keys n ≡ true → parent (entries_of (extract_of db keys)) (number_in (keeps_for db keys) 0 n) ≡ option_map (number_in (keeps_for db keys) 0) (parent (entries_of db) n)
+
+-- the extract of a file means what the file means
+abbrev pub extract_means_alike : Type 0
+extract_means_alike = (db : Reading) (keys : List Text) → ExtractMeans db keys
+
+-- The entries that the keys cite are cited in the extract, too, in the same order, under their new numbers; and the same keys are
+-- unknown.
+pub record CitesAlike (db : Reading) (keys : List Text) (min : ℕ) : Type 0 where
+  pub listed_is : listed (entries_of (extract_of db keys)) keys min ≡ map (number_in (keeps_for db keys) 0) (listed (entries_of db) keys min)
+  pub unknown_is : unknown (entries_of (extract_of db keys)) keys ≡ unknown (entries_of db) keys
+
+-- the cited list of the keys of an extract stays, unless the one key is `*` (if `min` were 0, all entries would be cited)
+abbrev pub cited_lists_stay : Type 0
+cited_lists_stay = (db : Reading) (keys : List Text) (min : ℕ) → cites_all keys ≡ false → 1 ≤ min → CitesAlike db keys min
+
+-- the extract of the extract, for the same keys, is the extract
+abbrev pub extract_once : Type 0
+extract_once = (db : Reading) (keys : List Text) → extract_of (extract_of db keys) keys ≡ extract_of db keys
