@@ -185,7 +185,7 @@ module _ (keeps : ℕ → Bool) (entries : List EntryTexts) (closed : IsClosed k
       ∙ sym (sum_by-cons (λ x. cond (g x) 1 0) n ns)
 
   -- the parent of one of them is kept
-  counted_kept : (m : ℕ) (ns : List ℕ) → AllByRecursion (λ m. keeps m ≡ true) ns → 1 ≤ count_by (is_parent_of entries m) ns → keeps m ≡ true
+  pub counted_kept : (m : ℕ) (ns : List ℕ) → AllByRecursion (λ m. keeps m ≡ true) ns → 1 ≤ count_by (is_parent_of entries m) ns → keeps m ≡ true
   counted_kept m [] all some = absurd (omega (arith, some))
   counted_kept m (n ∷ ns) all some = ⊎_elim
       (λ is. ⊎_elim

@@ -7,3 +7,4 @@ pub mod CitedLists
 pub mod ExtractOnce
 pub mod Needs
 pub mod LeastEntries
+pub mod ListedEntries

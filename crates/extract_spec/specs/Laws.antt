@@ -1,9 +1,9 @@
 -- Laws of extracts. Each is proved.
-use Rattle.std.specs.Prelude.{ℕ, ◌≡◌, ◌≤◌, true, false, Bool, List, map, Some, option_map}
+use Rattle.std.specs.Prelude.{ℕ, ◌≡◌, ◌≤◌, true, false, Bool, List, map, Some, option_map, All, ◌<◌, length}
 use Rattle.bib_spec.specs.Text.{Text}
 use Rattle.bib_spec.specs.Reading.{Item, Reading, Reads, bytes_of}
 use Rattle.bib_spec.specs.Records.{EntryTexts, entries_of, preambles_of, target, parent, expanded, cites_all, listed, unknown}
-use Rattle.extract_spec.specs.Extract.{keeps_for, kept, marked, picked, number_in, extract_from, extract_of}
+use Rattle.extract_spec.specs.Extract.{found, is_kept_entry, keeps_for, kept, marked, picked, number_in, extract_from, extract_of}
 
 -- the trees of the extract are those of the kept items, in order
 abbrev pub trees_are_kept : Type 0
@@ -69,3 +69,13 @@ cited_lists_stay = (db : Reading) (keys : List Text) (min : ℕ) → cites_all k
 -- the extract of the extract, for the same keys, is the extract
 abbrev pub extract_once : Type 0
 extract_once = (db : Reading) (keys : List Text) → extract_of (extract_of db keys) keys ≡ extract_of db keys
+
+-- The same entries are kept for the cited list of the keys, parents that it adds among them, as for what the keys find. Each
+-- number of the list is that of an entry.
+pub record ListedAreKept (entries : List EntryTexts) (keys : List Text) (min : ℕ) : Type 0 where
+  pub kept : (n : ℕ) → is_kept_entry entries (listed entries keys min) n ≡ is_kept_entry entries (found entries keys) n
+  pub within : All (λ n. n < length entries) (listed entries keys min)
+
+-- what is cited is kept
+abbrev pub listed_are_kept : Type 0
+listed_are_kept = (entries : List EntryTexts) (keys : List Text) (min : ℕ) → 1 ≤ min → ListedAreKept entries keys min

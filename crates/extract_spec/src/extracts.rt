@@ -1,6 +1,6 @@
 //! Laws of extracts.
 
-ghost use Rattle.extract_spec.specs.Laws.{trees_are_kept, extract_reads, extract_is_closed, entries_are_picked, preambles_stay, closed_entries_mean_alike, kept_entries_are_closed, extract_means_alike, cited_lists_stay, extract_once};
+ghost use Rattle.extract_spec.specs.Laws.{trees_are_kept, extract_reads, extract_is_closed, entries_are_picked, preambles_stay, closed_entries_mean_alike, kept_entries_are_closed, extract_means_alike, cited_lists_stay, listed_are_kept, extract_once};
 ghost use Rattle.extract_spec.specs.Needs.{kept_have_needs, kept_are_least, kept_entries_are_least};
 
 /// The extract of a file has the trees of the kept items, in order. It is a reading of its bytes. The extract of an extract
@@ -45,4 +45,9 @@ pub fn kept_items_are_the_least()
     ensures needs { kept_have_needs }
     ensures least { kept_are_least }
     ensures entries { kept_entries_are_least }
+{}
+
+/// The entries that the keys cite are kept, and what these inherit from is all that is kept.
+pub fn cited_entries_are_kept()
+    ensures { listed_are_kept }
 {}

@@ -1,0 +1,4 @@
+pub mod MarkedEntries
+pub mod NamesAwaited
+pub mod WalkedItems
+pub mod WrittenItems
