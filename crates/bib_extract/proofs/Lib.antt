@@ -1,4 +1,4 @@
-pub mod MarkedEntries
 pub mod NamesAwaited
+pub mod MarkedEntries
 pub mod WalkedItems
 pub mod WrittenItems

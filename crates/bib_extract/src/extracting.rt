@@ -1,6 +1,6 @@
 //! The extract of a file.
 
-ghost use Rattle.std.specs.Prelude.{◌≡◌, ◌≤◌, [], length, filter, IfOk, IfErr, OnOk};
+ghost use Rattle.std.specs.Prelude.{◌≡◌, ◌≤◌, [], ◌∷◌, ◌++◌, if◌then◌else◌, length, filter, IfOk, IfErr, OnOk};
 ghost use Rattle.std.specs.List.{range_with_len};
 ghost use Rattle.bib_spec.specs.Bytes.{file_limit};
 ghost use Rattle.bib_spec.specs.Reading.{bytes_of};
@@ -40,15 +40,23 @@ fn kept_marks<L: ItemList>(
     Ok(kept_items(alloc, db, entries.as_slice())?)
 }
 
+/// Adds the number, if it is marked.
+fn add_marked(numbers: &mut Vec<usize>, n: usize, is_marked: bool) -> Result<(), AllocError>
+    ensures { OnOk result (numbers.new.items ≡ numbers.old.items ++ (if is_marked then n ∷ [] else [])) }
+{
+    if is_marked {
+        numbers.push(n)?;
+    }
+    Ok(())
+}
+
 /// The numbers that are marked, in order.
 fn marked_numbers(alloc: Global, marks: &[bool]) -> Result<Vec<usize>, AllocError>
     ensures { IfOk result (λ numbers. numbers.items ≡ filter (is_marked marks.now) (range_with_len 0 (length marks.now))) }
 {
     let mut numbers = Vec::new(alloc);
     'marks: for n in 0..marks.len() {
-        if marks[n] {
-            numbers.push(n)?;
-        }
+        add_marked(&mut numbers, n, marks[n])?;
     }
     Ok(numbers)
 }

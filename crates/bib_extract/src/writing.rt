@@ -1,13 +1,15 @@
 //! The bytes of the items that are kept.
 
-ghost use Rattle.std.specs.Prelude.{◌≡◌, ◌≤◌, length, IfOk};
+ghost use Rattle.std.specs.Prelude.{◌≡◌, ◌≤◌, [], ◌∷◌, ◌++◌, Some, length, slice_get, IfOk, OnOk};
 ghost use Rattle.std.specs.List.{prefix_len, take_while};
 ghost use Rattle.bib_spec.specs.Text.{is_space};
-ghost use Rattle.bib_store.specs.Readings.{OfReading};
-ghost use Rattle.extract_spec.specs.Extract.{space_of};
+ghost use Rattle.bib_spec.specs.Reading.{Item, item_bytes};
+ghost use Rattle.bib_scan.specs.View.{view_of};
+ghost use Rattle.bib_store.specs.Readings.{OfReading, IsItemNumber};
+ghost use Rattle.extract_spec.specs.Extract.{space_of, on_its_line};
 ghost use Rattle.bib_extract.specs.Written.{marked_bytes};
 
-use bib_scan::Text;
+use bib_scan::{ItemView, Text};
 use bib_store::{Database, ItemList};
 use bib_text::is_space;
 use std::alloc::{AllocError, Global};
@@ -46,10 +48,35 @@ fn most_bytes<L: ItemList>(db: &Database<L>, marks: &[bool]) -> usize
     'items: for n in 0..marks.len() {
         if marks[n] {
             let end = db.item_place(n + 1);
-            len = len.saturating_add(end - db.item_place(n)).saturating_add(1);
+            len = len.saturating_add(end.saturating_sub(db.item_place(n))).saturating_add(1);
         }
     }
     len
+}
+
+/// Adds the bytes of an item, and after it the end of its line.
+fn add_item(out: &mut Vec<u8>, item: &ItemView<'_>) -> Result<(), AllocError>
+    ensures { OnOk result ((i : Item) → item.now ≡ view_of i → out.new.items ≡ out.old.items ++ item_bytes (on_its_line i)) }
+{
+    out.extend_from_slice(item.body())?;
+    out.extend_from_slice(line_end(item.trail()))?;
+    Ok(())
+}
+
+/// Adds the bytes of item `n`, if it is marked.
+fn add_marked<L: ItemList>(
+    out: &mut Vec<u8>,
+    db: &Database<L>,
+    n: usize,
+    is_marked: bool,
+) -> Result<(), AllocError>
+    requires { IsItemNumber db.now n }
+    ensures { OnOk result (OfReading db.now (λ r. (i : Item) → slice_get r.items n ≡ Some i → out.new.items ≡ out.old.items ++ marked_bytes (is_marked ∷ []) (i ∷ []))) }
+{
+    if is_marked {
+        add_item(out, &db.item(n))?;
+    }
+    Ok(())
 }
 
 /// The bytes of the marked items, each on its line.
@@ -63,11 +90,7 @@ pub(crate) fn marked_bytes<L: ItemList>(
 {
     let mut out = Vec::with_capacity(alloc, most_bytes(db, marks))?;
     'items: for n in 0..marks.len() {
-        if marks[n] {
-            let item = db.item(n);
-            out.extend_from_slice(item.body())?;
-            out.extend_from_slice(line_end(item.trail()))?;
-        }
+        add_marked(&mut out, db, n, marks[n])?;
     }
     Ok(Text::from_vec(out))
 }
