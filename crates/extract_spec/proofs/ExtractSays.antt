@@ -61,7 +61,7 @@ parts_agree m k (part ∷ parts) agree = ap₂ ◌++◌
     (part_agrees m k part (λ name e. agree name (in_left (same name) (name_in part) (flat_map name_in parts) e)))
     (parts_agree m k parts (λ name e. agree name (in_right (same name) (name_in part) (flat_map name_in parts) e)))
 
-value_agrees : (m k : Macros) (v : Value) → AgreeOn (names_in v) m k → raw_text k v ≡ raw_text m v
+pub value_agrees : (m k : Macros) (v : Value) → AgreeOn (names_in v) m k → raw_text k v ≡ raw_text m v
 value_agrees m k v agree = parts_agree m k (parts_of v) agree
 
 rows_agree : (m k : Macros) (rows : List Row) → AgreeOn (flat_map names_in (map (λ row. row.assignment.value) rows)) m k → map (field_of k) rows ≡ map (field_of m) rows
@@ -72,7 +72,7 @@ rows_agree m k (row ∷ rows) agree =
     (ap (λ t. let it : Field = record { name = row.assignment.name; raw = t } in it) (value_agrees m k v (λ name e. agree name (in_left (same name) (names_in v) others e))))
     (rows_agree m k rows (λ name e. agree name (in_right (same name) (names_in v) others e)))
 
-entry_agrees : (m k : Macros) (e : Entry) → AgreeOn (used_by (EntryTree e)) m k → texts_of k e ≡ texts_of m e
+pub entry_agrees : (m k : Macros) (e : Entry) → AgreeOn (used_by (EntryTree e)) m k → texts_of k e ≡ texts_of m e
 entry_agrees m k e agree =
     ap (λ fields. let it : EntryTexts = record { kind = e.opening.head.type_name; key = e.key; fields = fields } in it) (rows_agree m k e.rows agree)
 

@@ -8,3 +8,4 @@ pub mod ExtractOnce
 pub mod Needs
 pub mod LeastEntries
 pub mod ListedEntries
+pub mod ExtractOpens

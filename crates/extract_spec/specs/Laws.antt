@@ -1,9 +1,12 @@
 -- Laws of extracts. Each is proved.
-use Rattle.std.specs.Prelude.{ℕ, ◌≡◌, ◌≤◌, true, false, Bool, List, map, Some, option_map, All, ◌<◌, length}
-use Rattle.bib_spec.specs.Text.{Text}
+use Rattle.std.specs.Prelude.{ℕ, ◌≡◌, ◌≤◌, true, false, Bool, List, map, Some, option_map, All, ◌<◌, length, Option, ◌+◌, ◌∷◌, []}
+use Rattle.bib_spec.specs.Bytes.{file_limit}
+use Rattle.bib_spec.specs.Text.{Text, folded}
+use Rattle.bib_spec.specs.Tree.{Tree}
 use Rattle.bib_spec.specs.Reading.{Item, Reading, Reads, bytes_of}
+use Rattle.bib_spec.specs.Texts.{Macros, Opens, months, macros_after, raw_texts_in}
 use Rattle.bib_spec.specs.Records.{EntryTexts, entries_of, preambles_of, target, parent, expanded, cites_all, listed, unknown}
-use Rattle.extract_spec.specs.Extract.{found, is_kept_entry, keeps_for, kept, marked, picked, number_in, extract_from, extract_of}
+use Rattle.extract_spec.specs.Extract.{found, is_kept_entry, keeps_for, kept, marked, picked, number_in, extract_from, extract_of, used_by}
 
 -- the trees of the extract are those of the kept items, in order
 abbrev pub trees_are_kept : Type 0
@@ -79,3 +82,29 @@ pub record ListedAreKept (entries : List EntryTexts) (keys : List Text) (min : �
 -- what is cited is kept
 abbrev pub listed_are_kept : Type 0
 listed_are_kept = (entries : List EntryTexts) (keys : List Text) (min : ℕ) → 1 ≤ min → ListedAreKept entries keys min
+
+-- what each item says under the macros before it
+abbrev pub said_from : {X : Type 0} → (Macros → Tree → X) → Macros → List Item → List X
+said_from say macros [] = []
+said_from say macros (item ∷ items) = say macros item.tree ∷ said_from say (macros_after macros item.tree) items
+
+-- what the names that an item uses stand for
+abbrev pub uses_of : Macros → Tree → List (Option Text)
+uses_of macros tree = map (λ name. macros (folded name)) (used_by tree)
+
+-- each use of a macro in a kept item means what it meant
+abbrev pub uses_stay : Type 0
+uses_stay = (db : Reading) (keys : List Text) → said_from uses_of months (extract_of db keys).items ≡ marked (kept db keys) (said_from uses_of months db.items)
+
+-- each value of a kept item, that of a definition too, has the raw text that it had
+abbrev pub raw_texts_stay : Type 0
+raw_texts_stay = (db : Reading) (keys : List Text) → said_from raw_texts_in months (extract_of db keys).items ≡ marked (kept db keys) (said_from raw_texts_in months db.items)
+
+-- the extract of a file that can be opened can be opened, if it is not longer than a file may be
+abbrev pub extract_opens : Type 0
+extract_opens = (file : Text) (db : Reading) (keys : List Text) → Opens file db → length (bytes_of (extract_of db keys)) ≤ file_limit →
+    Opens (bytes_of (extract_of db keys)) (extract_of db keys)
+
+-- the extract is longer than the file by at most one byte for each item
+abbrev pub extract_length : Type 0
+extract_length = (db : Reading) (keys : List Text) → length (bytes_of (extract_of db keys)) ≤ length (bytes_of db) + length db.items

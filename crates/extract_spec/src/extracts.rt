@@ -1,6 +1,6 @@
 //! Laws of extracts.
 
-ghost use Rattle.extract_spec.specs.Laws.{trees_are_kept, extract_reads, extract_is_closed, entries_are_picked, preambles_stay, closed_entries_mean_alike, kept_entries_are_closed, extract_means_alike, cited_lists_stay, listed_are_kept, extract_once};
+ghost use Rattle.extract_spec.specs.Laws.{trees_are_kept, extract_reads, extract_is_closed, entries_are_picked, preambles_stay, closed_entries_mean_alike, kept_entries_are_closed, extract_means_alike, uses_stay, raw_texts_stay, extract_opens, extract_length, cited_lists_stay, listed_are_kept, extract_once};
 ghost use Rattle.extract_spec.specs.Needs.{kept_have_needs, kept_are_least, kept_entries_are_least};
 
 /// The extract of a file has the trees of the kept items, in order. It is a reading of its bytes. The extract of an extract
@@ -50,4 +50,14 @@ pub fn kept_items_are_the_least()
 /// The entries that the keys cite are kept, and what these inherit from is all that is kept.
 pub fn cited_entries_are_kept()
     ensures { listed_are_kept }
+{}
+
+/// Each use of a macro in an item of the extract means what it means in the file, and each value has the same raw text. So the
+/// extract of a file that can be opened can be opened, if it is not longer than a file may be. It is longer than the file by at
+/// most one byte for each item.
+pub fn an_extract_can_be_opened()
+    ensures uses { uses_stay }
+    ensures texts { raw_texts_stay }
+    ensures opens { extract_opens }
+    ensures len { extract_length }
 {}
