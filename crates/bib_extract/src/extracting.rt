@@ -1,14 +1,16 @@
 //! The extract of a file.
 
-ghost use Rattle.std.specs.Prelude.{◌≡◌, ◌≤◌, [], ◌∷◌, ◌++◌, if◌then◌else◌, length, filter, IfOk, IfErr, OnOk};
+ghost use Rattle.std.specs.Prelude.{◌≡◌, ◌≤◌, ◌<◌, [], ◌∷◌, ◌++◌, if◌then◌else◌, length, filter, IfOk, IfErr, OnOk};
 ghost use Rattle.std.specs.List.{range_with_len};
 ghost use Rattle.bib_spec.specs.Bytes.{file_limit};
 ghost use Rattle.bib_spec.specs.Reading.{bytes_of};
 ghost use Rattle.bib_spec.specs.Records.{entries_of, unknown};
+ghost use Rattle.bib_spec.specs.Texts.{IsOpenable};
 ghost use Rattle.bib_store.specs.Readings.{OfReading};
 ghost use Rattle.extract_spec.specs.Extract.{kept, extract_of};
 ghost use Rattle.bib_extract.specs.Faults.{RefusesExtract};
 ghost use Rattle.bib_extract.specs.Marks.{is_marked};
+ghost use Rattle.bib_extract.specs.declared.fault.ExtractFault.TheVariants.{FileTooLong};
 
 use crate::entries::kept_entries;
 use crate::fault::ExtractFault;
@@ -88,13 +90,22 @@ pub fn extract<L: ItemList>(
     keys: &[Text],
 ) -> Result<Text, ExtractFault>
     ensures text { IfOk result (λ text. OfReading db.now (λ r. text ≡ bytes_of (extract_of r keys.now))) }
-    ensures short { IfOk result (λ text. length text ≤ file_limit) }
+    ensures opens { IfOk result IsOpenable }
     ensures known { OnOk result (OfReading db.now (λ r. unknown (entries_of r) keys.now ≡ [])) }
     ensures fault { IfErr result (RefusesExtract db.now keys.now) }
 {
     db.opens();
     let marks = kept_marks(alloc, db, keys)?;
     let text = marked_bytes(alloc, db, marks.as_slice())?;
+    fitting(text)
+}
+
+/// The text, if it is not longer than a file may be.
+fn fitting(text: Text) -> Result<Text, ExtractFault>
+    ensures same { IfOk result (λ fits. fits ≡ text) }
+    ensures short { OnOk result (length text ≤ file_limit) }
+    ensures fault { IfErr result (λ fault. (fault ≡ FileTooLong) × (file_limit < length text)) }
+{
     if text.as_slice().len() > FILE_LIMIT {
         return Err(ExtractFault::FileTooLong);
     }
