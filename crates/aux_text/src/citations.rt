@@ -43,11 +43,7 @@ impl Aux {
 
 /// These keys, and after them the keys that are cited. If `*` is cited, all entries are, and `*` stands alone. It is refused
 /// only out of memory.
-pub fn with_cited(
-    alloc: Global,
-    keys: Vec<Text>,
-    cited: Vec<Text>,
-) -> Result<Vec<Text>, AllocError>
+pub fn with_cited(alloc: Global, keys: Vec<Text>, cited: Vec<Text>) -> Result<Vec<Text>, AllocError>
     ensures { IfOk result (λ all. all.items ≡ with_cited keys.items cited.items) }
 {
     if has_star(cited.as_slice()) {

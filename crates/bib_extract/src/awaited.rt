@@ -119,7 +119,11 @@ fn remove_defined(names: &mut Names, item: &ItemView<'_>)
 
 /// Makes of the names that are to be defined before the next item those that are to be defined before this one, which is
 /// kept.
-pub(crate) fn go_before(alloc: Global, names: &mut Names, item: &ItemView<'_>) -> Result<(), AllocError>
+pub(crate) fn go_before(
+    alloc: Global,
+    names: &mut Names,
+    item: &ItemView<'_>,
+) -> Result<(), AllocError>
     requires { HaveValues item.now.fields }
     ensures { OnOk result ((i : Item) (ns : List Text) → IsTree name_limit i.tree → item.now ≡ view_of i → HasNames names.old ns → HasNames names.new (names_before true i.tree ns)) }
 {

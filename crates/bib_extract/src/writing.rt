@@ -48,7 +48,9 @@ fn most_bytes<L: ItemList>(db: &Database<L>, marks: &[bool]) -> usize
     'items: for n in 0..marks.len() {
         if marks[n] {
             let end = db.item_place(n + 1);
-            len = len.saturating_add(end.saturating_sub(db.item_place(n))).saturating_add(1);
+            len = len
+                .saturating_add(end.saturating_sub(db.item_place(n)))
+                .saturating_add(1);
         }
     }
     len

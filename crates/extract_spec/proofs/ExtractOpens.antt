@@ -23,7 +23,7 @@ module _ {X : Type 0} (say : Macros → Tree → X) (alike : (m k : Macros) (tre
   -- one item, if what is said of those after it stays
   said_step : (keeps : ℕ → Bool) (n : ℕ) (m k : Macros) (tree : Tree) (trail : Text) (items : List Item) →
       ((m k : Macros) → AgreeOn (awaited keeps (number_after n tree) items) m k →
-          said_from say k (extract_from keeps (number_after n tree) items) ≡ marked (kept_from keeps (number_after n tree) items) (said_from say m items)) →
+      said_from say k (extract_from keeps (number_after n tree) items) ≡ marked (kept_from keeps (number_after n tree) items) (said_from say m items)) →
       AgreeOn (awaited keeps n (record { tree = tree; trail = trail } ∷ items)) m k →
       said_from say k (extract_from keeps n (record { tree = tree; trail = trail } ∷ items))
       ≡ marked (kept_from keeps n (record { tree = tree; trail = trail } ∷ items)) (said_from say m (record { tree = tree; trail = trail } ∷ items))

@@ -7,9 +7,8 @@ mod extracts;
 
 pub use examples::an_extract_is_what_is_cited;
 pub use extracts::{
-    an_extract_can_be_opened,
-    an_extract_is_kept_items, an_extract_keeps_its_cited_list, an_extract_keeps_its_records,
-    an_extract_of_an_extract_is_that_extract, an_extract_says_what_the_file_says,
-    cited_entries_are_kept,
-    closed_entries_keep_their_records, kept_items_are_the_least,
+    an_extract_can_be_opened, an_extract_is_kept_items, an_extract_keeps_its_cited_list,
+    an_extract_keeps_its_records, an_extract_of_an_extract_is_that_extract,
+    an_extract_says_what_the_file_says, cited_entries_are_kept, closed_entries_keep_their_records,
+    kept_items_are_the_least,
 };
