@@ -1,0 +1,4 @@
+pub mod NamesAwaited
+pub mod MarkedEntries
+pub mod WalkedItems
+pub mod WrittenItems

@@ -1,0 +1,11 @@
+pub mod ExtractReads
+pub mod ExtractSays
+pub mod PickedEntries
+pub mod ExtractMeans
+pub mod Chains
+pub mod CitedLists
+pub mod ExtractOnce
+pub mod Needs
+pub mod LeastEntries
+pub mod ListedEntries
+pub mod ExtractOpens

@@ -1,0 +1,4 @@
+pub mod Extract
+pub mod Needs
+pub mod Laws
+pub mod Examples

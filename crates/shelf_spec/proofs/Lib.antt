@@ -1,0 +1,3 @@
+pub mod ShelfReads
+pub mod ShelfPlaces
+pub mod SeamsSay

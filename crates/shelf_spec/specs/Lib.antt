@@ -1,0 +1,4 @@
+pub mod Shelf
+pub mod Numbers
+pub mod Laws
+pub mod Examples
