@@ -49,12 +49,20 @@ fn unknown(alloc: Global, file: &[u8], keys: &[u8]) -> Option<usize> {
 }
 
 /// A file with everything that an extract keeps, and what it leaves out.
-const NOTES: &[u8] = b"Private notes.\n@string{p = {Press}}@string{q = {Quarto}}\n@preamble{\"\\x\" # q}\n% read this\n@inproceedings{c1, title = {One}, crossref = {V}} % mine\n@inproceedings{c2, title = {Two}, crossref = {v}}\n\n@proceedings{v, publisher = p, crossref = {s}}\n\n@comment{old}\n@misc{s, year = 2001}\n@misc{z}\n";
+const NOTES: &[u8] =
+    b"Private notes.\n@string{p = {Press}}@string{q = {Quarto}}\n@preamble{\"\\x\" # q}\n% read this\n@inproceedings{c1, title = {One}, crossref = {V}} % mine\n@inproceedings{c2, title = {Two}, crossref = {v}}\n\n@proceedings{v, publisher = p, crossref = {s}}\n\n@comment{old}\n@misc{s, year = 2001}\n@misc{z}\n";
 
 #[test]
 fn an_entry_comes_with_its_parents_and_macros(rt: HostRuntime) -> Result<(), Fail> {
     let alloc = rt.alloc();
-    assert!(rt; gives(alloc, NOTES, b"C1", b"@string{p = {Press}}\n@string{q = {Quarto}}\n@preamble{\"\\x\" # q}\n@inproceedings{c1, title = {One}, crossref = {V}}\n@proceedings{v, publisher = p, crossref = {s}}\n\n@misc{s, year = 2001}\n")?);
+    assert!(rt;
+        gives(
+            alloc,
+            NOTES,
+            b"C1",
+            b"@string{p = {Press}}\n@string{q = {Quarto}}\n@preamble{\"\\x\" # q}\n@inproceedings{c1, title = {One}, crossref = {V}}\n@proceedings{v, publisher = p, crossref = {s}}\n\n@misc{s, year = 2001}\n"
+        )?
+    );
     assert!(rt; kept_items(alloc, NOTES, b"C1")?.as_slice() == [0, 1, 2, 3, 5, 7].as_slice());
     Ok(())
 }
@@ -67,9 +75,23 @@ fn a_use_comes_with_the_last_definition_before_it(rt: HostRuntime) -> Result<(),
     assert!(rt; gives(alloc, twice, b"b", b"@string{p={B}}\n@misc{b,t=p}\n")?);
     let month = b"@misc{a,month=jan}@string{jan=jan#{x}}@misc{b,month=jan}";
     assert!(rt; gives(alloc, month, b"a", b"@misc{a,month=jan}\n")?);
-    assert!(rt; gives(alloc, month, b"b", b"@string{jan=jan#{x}}\n@misc{b,month=jan}\n")?);
+    assert!(rt;
+        gives(
+            alloc,
+            month,
+            b"b",
+            b"@string{jan=jan#{x}}\n@misc{b,month=jan}\n"
+        )?
+    );
     let chain = b"@string{P={A}}@string{q=p#P}@string{p={B}}@misc{a,t=Q}";
-    assert!(rt; gives(alloc, chain, b"A", b"@string{P={A}}\n@string{q=p#P}\n@misc{a,t=Q}\n")?);
+    assert!(rt;
+        gives(
+            alloc,
+            chain,
+            b"A",
+            b"@string{P={A}}\n@string{q=p#P}\n@misc{a,t=Q}\n"
+        )?
+    );
     Ok(())
 }
 
@@ -77,15 +99,36 @@ fn a_use_comes_with_the_last_definition_before_it(rt: HostRuntime) -> Result<(),
 fn a_ring_of_parents_is_kept_whole(rt: HostRuntime) -> Result<(), Fail> {
     let alloc = rt.alloc();
     let ring = b"@misc{a,crossref={b}}@misc{b,crossref={a}}@misc{c}";
-    assert!(rt; gives(alloc, ring, b"a", b"@misc{a,crossref={b}}\n@misc{b,crossref={a}}\n")?);
-    assert!(rt; gives(alloc, b"@misc{a,crossref={A}}", b"a", b"@misc{a,crossref={A}}\n")?);
+    assert!(rt;
+        gives(
+            alloc,
+            ring,
+            b"a",
+            b"@misc{a,crossref={b}}\n@misc{b,crossref={a}}\n"
+        )?
+    );
+    assert!(rt;
+        gives(
+            alloc,
+            b"@misc{a,crossref={A}}",
+            b"a",
+            b"@misc{a,crossref={A}}\n"
+        )?
+    );
     Ok(())
 }
 
 #[test]
 fn a_star_keeps_all_entries(rt: HostRuntime) -> Result<(), Fail> {
     let alloc = rt.alloc();
-    assert!(rt; gives(alloc, b"@misc{a}@comment{x}@misc{A,t=1}@string{m=1}", b"*", b"@misc{a}\n@misc{A,t=1}\n")?);
+    assert!(rt;
+        gives(
+            alloc,
+            b"@misc{a}@comment{x}@misc{A,t=1}@string{m=1}",
+            b"*",
+            b"@misc{a}\n@misc{A,t=1}\n"
+        )?
+    );
     assert!(rt; gives(alloc, b"x@comment y", b"*", b"")?);
     Ok(())
 }
@@ -102,6 +145,13 @@ fn the_first_key_that_finds_nothing_is_named(rt: HostRuntime) -> Result<(), Fail
 #[test]
 fn white_space_behind_an_item_stays_if_it_ends_the_line(rt: HostRuntime) -> Result<(), Fail> {
     let alloc = rt.alloc();
-    assert!(rt; gives(alloc, b"@misc{a} \t\r\n  x\n@misc{b}  y\n@misc{c}\n\n\n", b"*", b"@misc{a} \t\r\n  @misc{b}\n@misc{c}\n\n\n")?);
+    assert!(rt;
+        gives(
+            alloc,
+            b"@misc{a} \t\r\n  x\n@misc{b}  y\n@misc{c}\n\n\n",
+            b"*",
+            b"@misc{a} \t\r\n  @misc{b}\n@misc{c}\n\n\n"
+        )?
+    );
     Ok(())
 }
