@@ -5,9 +5,9 @@ when --help; ends_with 0; mentions 'Usage: bibkeep'; says_nothing
 when -h; ends_with 0; mentions 'Edits BibTeX files'; says_nothing
 when help; ends_with 0; mentions 'Prints a file that is valid BibTeX'; says_nothing
 when cat --help; ends_with 0; mentions 'standard input if it is left out'; says_nothing
-when cat -h; ends_with 0; mentions 'Usage: bibkeep cat [F]'; says_nothing
-when help cat; ends_with 0; mentions 'Usage: bibkeep cat [F]'; says_nothing
-when check --help; ends_with 0; mentions 'Usage: bibkeep check <F>'; says_nothing
+when cat -h; ends_with 0; mentions 'Usage: bibkeep cat [OPTIONS] [F]'; says_nothing
+when help cat; ends_with 0; mentions 'Usage: bibkeep cat [OPTIONS] [F]'; says_nothing
+when check --help; ends_with 0; mentions 'Usage: bibkeep check [OPTIONS] <F>'; says_nothing
 when help show; ends_with 0; mentions 'Usage: bibkeep show [OPTIONS] <F> <KEY>'; says_nothing
 when cite --help; ends_with 0; mentions '--min-crossrefs <N>'; says_nothing
 when edit --help; ends_with 0; mentions 'Usage: bibkeep edit [OPTIONS] <F> [WORD]...'; says_nothing

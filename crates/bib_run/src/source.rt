@@ -25,7 +25,7 @@ impl From<AllocError> for SourceFault {
 }
 
 /// One call reads at most this many bytes.
-const CHUNK: usize = 65_536;
+const CHUNK: usize = 16_384;
 
 /// Reads to the end of the source, or until it gave `most` bytes. It makes an interrupted call again.
 pub fn read_up_to<R: Read>(
