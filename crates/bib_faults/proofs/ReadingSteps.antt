@@ -3,7 +3,7 @@ use Rattle.std.proofs.Common.{◌≡◌, ◌==◌, false, ℕ, ◌+◌, ◌-◌,
 use Rattle.std.proofs.lemmas.List.{length-drop, map-append}
 use Rattle.bib_spec.specs.Bytes.{file_limit}
 use Rattle.bib_spec.specs.Text.{Text}
-use Rattle.bib_spec.specs.Reading.{HasReading, FailsAt}
+use Rattle.bib_spec.specs.Reading.{HasReading}
 use Rattle.std.proofs.lemmas.Bool.{false≢true}
 use Rattle.bib_spec.specs.Fault.{fault_number, IsReadFault, too_long, no_reading, no_memory}
 use Rattle.bib_scan.specs.declared.fault.ReadFault.{ReadFault}

@@ -1,4 +1,4 @@
-use Rattle.std.proofs.Common.{ℕ, length, ap, arith}
+use Rattle.std.proofs.Common.{arith}
 use Rattle.std.proofs.lemmas.Result.{err_from_is_err_and}
 use Rattle.bib_faults.specs.Told.{too_long}
 use Rattle.bib_faults.proofs.ReadingSteps.{next_less, read_more, read_done, unlisted_memory}
