@@ -3,7 +3,7 @@ use Rattle.bib_answers.proofs.Words.{◌≡◌, ◌≢◌, ◌<◌, ◌+◌, ℕ
 use Rattle.std.proofs.Common.{inl, inr, refl, nat_lt, arith, ◌++◌}
 use Rattle.std.proofs.lemmas.Bool.{ltb-true, ltb-false, false≢true}
 use Rattle.bib_spec.specs.Reading.{HasReading}
-use Rattle.bib_spec.specs.Fault.{too_long, no_reading as unread, no_memory as no_memory_left, fault_number}
+use Rattle.bib_spec.specs.Fault.{too_long, no_reading as unread, no_memory as no_memory_left}
 use Rattle.bib_scan.specs.declared.fault.ReadFault.{ReadFault}
 use Rattle.bib_store.specs.Readings.{IsOpenFault}
 use Rattle.bib_faults.specs.GoingOn.{Fault}
