@@ -1,7 +1,8 @@
 -- The lines of faults of reading, and which faults those are.
-use Rattle.bib_answers.proofs.Words.{◌≡◌, ◌≢◌, ◌<◌, ◌+◌, ℕ, true, false, List, [], ◌∷◌, ◌==◌, sym, ap, ◌∙◌, append-nil, flat_map, flat_map_more, length, take, take_more, get_or, map, Text, IsReadFault, Written, answer_of}
+use Rattle.bib_answers.proofs.Words.{◌≡◌, ◌≢◌, ◌<◌, ◌≤◌, ◌+◌, ℕ, true, false, List, [], ◌∷◌, ◌==◌, sym, ap, ◌∙◌, append-nil, flat_map, flat_map_more, length, take, take_more, get_or, map, Text, IsReadFault, Written, answer_of}
 use Rattle.std.proofs.Common.{inl, inr, refl, nat_lt, arith, ◌++◌}
 use Rattle.std.proofs.lemmas.Bool.{ltb-true, ltb-false, false≢true}
+use Rattle.bib_spec.specs.Bytes.{file_limit}
 use Rattle.bib_spec.specs.Reading.{HasReading}
 use Rattle.bib_spec.specs.Fault.{too_long, no_reading as unread, no_memory as no_memory_left}
 use Rattle.bib_scan.specs.declared.fault.ReadFault.{ReadFault}
@@ -44,6 +45,16 @@ no_reading file kind place is_not low (inl fault) = of_read kind place fault is_
     of_read k p (unread fault place short failing kind_is) is_not low reads = failing.fails reads
     of_read k p (no_memory_left short) is_not low reads = false≢true (sym is_not)
 no_reading file kind place is_not low (inr fault) = let at_most = ltb-false 7 kind low in let is = fault.number in absurd (omega (arith, at_most, is))
+
+-- and is not too long
+pub short_file : (file : Text) (kind place : ℕ) → (kind == 10) ≡ false → nat_lt 7 kind ≡ false → IsOpenFault file kind place → length file ≤ file_limit
+short_file file kind place is_not low (inl fault) = of_read kind place fault low
+  where
+    of_read : (k p : ℕ) → IsReadFault file k p → nat_lt 7 k ≡ false → length file ≤ file_limit
+    of_read k p (too_long long) low = let at_most = ltb-false 7 9 low in absurd (omega (arith, at_most))
+    of_read k p (unread fault place short failing kind_is) low = short
+    of_read k p (no_memory_left short) low = short
+short_file file kind place is_not low (inr fault) = fault.short
 
 -- ---- lines that are added one after another
 

@@ -1,8 +1,9 @@
 -- `lint`: what is wrong with a file, as compilers write it: a line for each finding, with its position.
-use Rattle.std.specs.Prelude.{ℕ, ◌≡◌, ◌≢◌, ◌<◌, Bool, ◌==◌, ◌+◌, nat_lt, List, [], ◌∷◌, ◌++◌, length, map, Option, None, Some, is_none, if◌then◌else◌, option_and_then, slice_get, codes, zip}
+use Rattle.std.specs.Prelude.{ℕ, ◌≡◌, ◌≢◌, ◌<◌, ◌≤◌, Bool, ◌==◌, ◌+◌, nat_lt, List, [], ◌∷◌, ◌++◌, length, map, Option, None, Some, is_none, if◌then◌else◌, option_and_then, slice_get, codes, zip}
 use Rattle.std.specs.Fmt.{decimal}
 use Rattle.std.specs.List.{flat_map, list_any, range_with_len}
 use Rattle.std.specs.Option.{option_map_or}
+use Rattle.bib_spec.specs.Bytes.{file_limit}
 use Rattle.bib_spec.specs.Text.{Text, folded, same, is_new_key}
 use Rattle.bib_spec.specs.Tree.{Part, Braced, Quoted, Digits, Macro, Value, Tree}
 use Rattle.bib_spec.specs.Reading.{Reading, HasReading}
@@ -184,7 +185,7 @@ fault_lines name file faults = flat_map (fault_line name file) faults
 -- that has none is not opened (dialect)
 pub data IsLintAnswer (name file : Text) (answer : Answer) : Type 0 where
   opened : (db : Reading) → Opens file db → answer ≡ lint_answer name file db → IsLintAnswer name file answer
-  faulty : (HasReading file → ⊥) → (faults : List Fault) → Faults file faults → answer ≡ answer_of (fault_lines name file faults) [] 1
+  faulty : length file ≤ file_limit → (HasReading file → ⊥) → (faults : List Fault) → Faults file faults → answer ≡ answer_of (fault_lines name file faults) [] 1
       → IsLintAnswer name file answer
   refused : (kind place : ℕ) → kind ≢ 10 → 7 < kind → IsOpenFault file kind place → answer ≡ answer_of (error_line name (position_of file place) kind) [] 1
       → IsLintAnswer name file answer

@@ -1,6 +1,6 @@
-use Rattle.bib_answers.proofs.Words.{sym, ◌∙◌, IfOk-weaker}
+use Rattle.bib_answers.proofs.Words.{◌∙◌, sym, IfOk-weaker}
 use Rattle.bib_answers.specs.Lint.{faulty, refused}
-use Rattle.bib_answers.proofs.FaultLines.{one_line, no_reading, past_reading, no_memory}
+use Rattle.bib_answers.proofs.FaultLines.{one_line, no_reading, short_file, past_reading, no_memory}
 use Rattle.bib_answers.proofs.lint.unread.Goals as goal
 
 pub returns-then-is_past_reading : goal.returns-then-is_past_reading
@@ -12,7 +12,9 @@ returns-then-is_past_reading c =
 
 pub returns : goal.returns
 returns c =
+    let told = sym c.is_memory.ensures ∙ c.if-is_memory.false in
+    let low = sym c.is_past_reading.ensures ∙ c.if-is_past_reading.false in
     IfOk-weaker c.answer_all.result _ _
-    (λ answer h. faulty (no_reading c.args.file.now c.args.fault.kind c.args.fault.place (sym c.is_memory.ensures ∙ c.if-is_memory.false)
-    (sym c.is_past_reading.ensures ∙ c.if-is_past_reading.false) c.requires) h.0 h.1 h.2)
+    (λ answer h. faulty (short_file c.args.file.now c.args.fault.kind c.args.fault.place told low c.requires)
+    (no_reading c.args.file.now c.args.fault.kind c.args.fault.place told low c.requires) h.0 h.1 h.2)
     c.answer_all.ensures
