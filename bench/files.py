@@ -379,6 +379,11 @@ def ring(count):
     return b"".join(b"@misc{k%d,f%d={%d},crossref={k%d}}\n" % (n, n % 16, n, (n + 1) % count) for n in range(count))
 
 
+def faults(size):
+    """Entries of 32 bytes, a line each, in each of which a comma is missing."""
+    return b"".join(b"@misc{k%07d, t = {x} u = 20}\n" % n for n in range(size // 32))
+
+
 def great():
     """A macro whose text is long, and so many uses that all of them would be gigabytes."""
     return b"@string{m = {%s}}\n" % (b"x" * 1000000) + b"".join(b"@misc{k%d, t = m}\n" % n for n in range(20000))
@@ -419,6 +424,8 @@ CONTENTS = {
     "ancestors": lambda: line_of_ancestors(20000),
     "ring 50": lambda: ring(50000),
     "ring 100": lambda: ring(100000),
+    "faults 8": lambda: faults(8000000),
+    "faults 16": lambda: faults(16000000),
     "great": great,
     "authors 50000": lambda: authors(50000),
     "authors 100000": lambda: authors(100000),

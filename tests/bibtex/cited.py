@@ -44,7 +44,8 @@ class Cited:
             if not (self.lists_all and key == b"*"):
                 self.spellings.setdefault(folded(key), key)
         # the keys whose entries come first
-        self.cited = [folded(key) for key in (keys[: keys.index(b"*")] if self.lists_all else self.spellings)]
+        first = keys[: keys.index(b"*")] if self.lists_all else self.spellings
+        self.cited = list(dict.fromkeys(folded(key) for key in first))
         # the number of the entry that each key finds
         self.found = {}
         self.read_all()
@@ -90,7 +91,19 @@ class Cited:
 
     def parent(self, n):
         """The number of the entry from which entry n inherits."""
-        return self.found.get(self.name_of_parent(n))
+        name = self.name_of_parent(n)
+        if name in self.found or not self.is_missing(name):
+            return self.found.get(name)
+        return dict(enumerate(self.places())).get(list(self.spellings).index(name))
+
+    def is_missing(self, name):
+        """Whether the key is cited beside `*`: BibTeX takes the place with its number, if no entry has it."""
+        return self.lists_all and name in self.spellings and "missing-key-beside-star" in self.rules
+
+    def places(self):
+        """The number of the entry at each place, or nothing, if all are listed: the keys before `*`, and then the others."""
+        others = [n for key, n in self.found.items() if key not in self.cited]
+        return [self.found.get(key) for key in self.cited] + sorted(others)
 
     # ---- what is listed
 
@@ -115,7 +128,9 @@ class Cited:
 
     def record(self, n, fields, numbers):
         entry, parent = self.entries[n], self.parent(n)
-        name = None if parent not in numbers else self.spelled(self.entries[parent].key)
+        named = self.name_of_parent(n)
+        told = self.spellings[named] if named not in self.found and self.is_missing(named) else None
+        name = None if parent not in numbers else told or self.spelled(self.entries[parent].key)
         return Record(folded(entry.kind), self.spelled(entry.key), name, fields)
 
     def spelled(self, key):

@@ -1,4 +1,4 @@
-"""Files with a mistake: BibTeX complains where bibkeep refuses, in the same line, and else both read the same."""
+"""Files with a mistake: BibTeX complains in the lines in which `lint` names faults, and else both read the same."""
 
 import re
 from random import Random
@@ -25,16 +25,19 @@ def with_mistake(seed):
 
 
 def compare_mistake(report, bibtex, bibkeep, seed):
-    """BibTeX complains where bibkeep refuses, in the line of the place; and where it does not, both read the same."""
+    """BibTeX complains in the lines of all faults, of which the first is where bibkeep refuses; without one both read the same."""
     file = with_mistake(seed)
     style, opens = style_for(file), bibkeep.takes(file)
     bibtex.takes(file, style)
     answer, place = bibtex.answer([b"*"]), bibkeep.place_of_fault()
-    lines = [] if place is None else [line_of(file, place)]
-    report.compare("lines of faults", f"mistake {seed}", answer.faults[:1], lambda rules: allowed(rules, file, lines), LEAVING_OUT)
+    first = [] if place is None else [line_of(file, place)]
+    report.compare("lines of first faults", f"mistake {seed}", answer.faults[:1], lambda rules: allowed(rules, file, first), LEAVING_OUT)
+    # the end of the file is in its last line
+    lines = [min(line, file.count(b"\n")) for line in bibkeep.lines_of_faults()]
+    report.compare("lines of all faults", f"mistake {seed}", answer.faults, lambda rules: allowed(rules, file, lines), LEAVING_OUT)
     if opens and not answer.faults:
-        first = {folded(key): key for key, _ in reversed(bibkeep.cite([b"*"])[0])}
-        ours = by_key(told(bibkeep.show(key), style) for key in first.values() if key)
+        found = {folded(key): key for key, _ in reversed(bibkeep.cite([b"*"])[0])}
+        ours = by_key(told(bibkeep.show(key), style) for key in found.values() if key)
         theirs = by_key(it for it in answer.records if it.key)
         report.compare("files with a mistake", f"mistake {seed}", theirs, lambda rules: allowed(rules, file, ours), LEAVING_OUT)
 

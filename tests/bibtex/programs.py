@@ -14,6 +14,7 @@ REPORTS = {
 }
 # A fault of an item, with its line; but at-signs that begin no item, and entries whose key was met before, are none.
 FAULT = re.compile(rb"(?!.*entry type---|I was expecting a `{' or a `\('---|Repeated entry---).*---line (\d+) of file file.bib")
+FAULT_LINE = re.compile(rb"^.*:(\d+):\d+: error: ", re.M)
 PLACE = re.compile(rb"bibkeep: [1-7] \w+ at (\d+)\n")
 
 
@@ -114,6 +115,10 @@ class Bibkeep:
         """Where the file is refused."""
         found = PLACE.fullmatch(self.run("cat").stderr)
         return int(found.group(1)) if found else None
+
+    def lines_of_faults(self):
+        """The line of each fault that `lint` names."""
+        return [int(found.group(1)) for found in FAULT_LINE.finditer(self.run("lint").stdout)]
 
     def reports(self):
         """What `check` says of the file after its five counts."""

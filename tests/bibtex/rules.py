@@ -10,6 +10,7 @@ CITING = {
     "empty-key": "an empty crossref names the entry with an empty key",
     "repeated-in-all": "`*` lists entries with one key once",
     "star-beside-keys": "`*` beside other keys cites all entries too",
+    "missing-key-beside-star": "beside `*`, a crossref to a cited key without an entry finds the entry at the place of that number",
     "spelling-of-keys": "a key is spelled as it was cited, and not as it stands in the file",
 }
 # How a name is printed by a template, and split. The last two are shown by examples alone.
@@ -28,7 +29,8 @@ READING = {
     "at-sign-in-types": "an at-sign may stand in the name of a type",
     "delete-in-names": "the byte DEL may stand in the names of types, fields and macros",
     "long-names": "a name or a key may have more than 255 bytes",
-    "one-item-in-last-line": "of the items that begin in the last line the first alone is read",
+    "one-thing-in-last-line": "the first thing read that ends in the last line is the last that is read",
+    "body-of-a-repeated-entry": "the body of an entry whose key an earlier entry has is read for at-signs",
     "goes-on-after-faults": "the rows before a fault stand, and reading goes on after it",
 }
 RULES = {**CITING, **PRINTING, **READING}

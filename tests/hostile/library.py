@@ -20,7 +20,7 @@ HERE = os.path.dirname(os.path.abspath(__file__))
 ROOT = os.path.dirname(os.path.dirname(HERE))
 CRATE = "refusals"
 STANDS_ON = (
-    "bib_text folded_map bib_scan bib_data bib_pieces bib_value bib_numbers bib_order bib_index bib_entries "
+    "bib_text folded_map bib_scan bib_faults bib_data bib_pieces bib_value bib_numbers bib_order bib_index bib_entries "
     "bib_definitions bib_items bib_store bib_steps bib_names bib_keys bib_tokens bib_edit bib_journal journal_format "
     "bib_script ris_text ris_format bib_ris bib_taps"
 )

@@ -35,6 +35,17 @@ finds '@misc(a}b, t = 1)@misc{c{d}' 'linted.bib:1:7: warning: key a}b is none th
 
 # A file that cannot be opened has one finding, an error.
 when lint newline.bib; ends_with 1; prints 'newline.bib:1:16: error: 6 UnbalancedBrace\n'; says_nothing
+
+# Every fault of a file that is not valid: reading goes on with the next at-sign that begins an item, also in the same line; of
+# one item the first fault alone is told. A brace that is not closed takes the rest of the file along.
+finds '@misc{a, t = 1 u = 2, v = 3}\n@misc{b, w = x y}\n' 'linted.bib:1:16: error: 4 ExpectedCommaOrClose\nlinted.bib:2:16: error: 4 ExpectedCommaOrClose\n'
+finds '@misc{a b} @misc{c d}' 'linted.bib:1:9: error: 4 ExpectedCommaOrClose\nlinted.bib:1:20: error: 4 ExpectedCommaOrClose\n'
+finds '@string{m = }\n@misc{a, t = m # n}' 'linted.bib:1:13: error: 5 ExpectedValue\n'
+finds '@misc{a @misc{b}' 'linted.bib:1:9: error: 4 ExpectedCommaOrClose\n'
+finds '@misc{a, t = {x}\n@misc{b, t = {y}' 'linted.bib:2:1: error: 4 ExpectedCommaOrClose\nlinted.bib:2:17: error: 1 Unended\n'
+finds '@string{1}@misc{a, 1 = 2}@misc{b, t 2}@misc{c, t = }@misc{d, t = "}"}@misc{e x}@misc{' 'linted.bib:1:9: error: 2 ExpectedName\nlinted.bib:1:20: error: 2 ExpectedName\nlinted.bib:1:37: error: 3 ExpectedEquals\nlinted.bib:1:52: error: 5 ExpectedValue\nlinted.bib:1:67: error: 6 UnbalancedBrace\nlinted.bib:1:78: error: 4 ExpectedCommaOrClose\nlinted.bib:1:86: error: 1 Unended\n'
+
+# A text that is too long, in a file that is valid or not, and a file that is too long.
 when lint too_long_text.bib; ends_with 1; prints 'too_long_text.bib:1:483: error: 8 TextTooLong\n'; says_nothing
 when lint too_long.bib; ends_with 1; prints 'too_long.bib:1:16777217: error: 9 FileTooLong\n'; says_nothing
 when lint nothing.bib; ends_with 3; writes_nothing; says 'bibkeep: read fault'

@@ -1,6 +1,7 @@
 -- ---- why a file is not read
 pub mod Words
 pub mod Refusals
+pub mod FaultLines
 -- ---- what the commands find in a file
 pub mod ItemCounts
 pub mod ItemFields

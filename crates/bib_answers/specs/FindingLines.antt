@@ -2,7 +2,9 @@
 use Rattle.std.specs.Prelude.{ℕ, List, ◌++◌}
 use Rattle.std.specs.List.{flat_map}
 use Rattle.bib_spec.specs.Text.{Text}
-use Rattle.bib_answers.specs.Lint.{Finding, finding_line}
+use Rattle.bib_scan.specs.declared.fault.ReadFault.{ReadFault}
+use Rattle.bib_answers.specs.Lint.{Finding, finding_line, error_line}
+use Rattle.bib_answers.specs.Positions.{position_of}
 
 -- the file's name and bytes, where the item that is looked at begins, and the lines so far
 pub record Written : Type 0 where
@@ -18,3 +20,7 @@ at_item w start = record w { start = start }
 -- with the lines of these findings added
 abbrev pub with_findings : Written → List Finding → Written
 with_findings w findings = record w { text = w.text ++ flat_map (finding_line w.name w.file w.start) findings }
+
+-- with the lines of these faults of reading added, each with its place in the file
+abbrev pub with_faults : Written → List ReadFault → Written
+with_faults w faults = record w { text = w.text ++ flat_map (λ fault. error_line w.name (position_of w.file fault.place) fault.kind) faults }

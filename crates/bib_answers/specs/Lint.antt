@@ -1,11 +1,14 @@
 -- `lint`: what is wrong with a file, as compilers write it: a line for each finding, with its position.
-use Rattle.std.specs.Prelude.{ℕ, ◌≡◌, ◌≢◌, Bool, ◌==◌, ◌+◌, nat_lt, List, [], ◌∷◌, ◌++◌, length, map, Option, None, Some, is_none, if◌then◌else◌, option_and_then, slice_get, codes, zip}
+use Rattle.std.specs.Prelude.{ℕ, ◌≡◌, ◌≢◌, ◌<◌, ◌≤◌, Bool, ◌==◌, ◌+◌, nat_lt, List, [], ◌∷◌, ◌++◌, length, map, Option, None, Some, is_none, if◌then◌else◌, option_and_then, slice_get, codes, zip}
 use Rattle.std.specs.Fmt.{decimal}
 use Rattle.std.specs.List.{flat_map, list_any, range_with_len}
 use Rattle.std.specs.Option.{option_map_or}
+use Rattle.bib_spec.specs.Bytes.{file_limit}
 use Rattle.bib_spec.specs.Text.{Text, folded, same, is_new_key}
 use Rattle.bib_spec.specs.Tree.{Part, Braced, Quoted, Digits, Macro, Value, Tree}
-use Rattle.bib_spec.specs.Reading.{Reading}
+use Rattle.bib_spec.specs.Reading.{Reading, HasReading}
+use Rattle.bib_spec.specs.Fault.{fault_number}
+use Rattle.bib_faults.specs.GoingOn.{Fault, Faults}
 use Rattle.bib_spec.specs.Texts.{Macros, months, macros_at, is_empty, parts_of, Opens}
 use Rattle.bib_spec.specs.Records.{EntryTexts, entries_of, crossref, crossref_text, target, parent, other_than, is_repeated}
 use Rattle.bib_scan.specs.Layout.{start_of}
@@ -170,8 +173,19 @@ lint_answer name file db = answer_of (lint_lines name file db) [] (lint_status (
 abbrev pub error_line : Text → Position → ℕ → Text
 error_line name at kind = placed_at name at ++ (codes "error: " ++ (decimal kind ++ (codes " " ++ (fault_name kind ++ codes "\n"))))
 
--- `lint F`, where F has this name and these bytes: the findings, or why the file cannot be opened (dialect)
+-- the line of a fault of reading
+abbrev pub fault_line : Text → Text → Fault → Text
+fault_line name file fault = error_line name (position_of file fault.place) (fault_number fault.kind)
+
+-- a line for each of these faults, in order
+abbrev pub fault_lines : Text → Text → List Fault → Text
+fault_lines name file faults = flat_map (fault_line name file) faults
+
+-- `lint F`, where F has this name and these bytes: the findings; or each fault of reading; or the one fault for which a file
+-- that has none is not opened (dialect)
 pub data IsLintAnswer (name file : Text) (answer : Answer) : Type 0 where
   opened : (db : Reading) → Opens file db → answer ≡ lint_answer name file db → IsLintAnswer name file answer
-  refused : (kind place : ℕ) → kind ≢ 10 → IsOpenFault file kind place → answer ≡ answer_of (error_line name (position_of file place) kind) [] 1
+  faulty : length file ≤ file_limit → (HasReading file → ⊥) → (faults : List Fault) → Faults file faults → answer ≡ answer_of (fault_lines name file faults) [] 1
+      → IsLintAnswer name file answer
+  refused : (kind place : ℕ) → kind ≢ 10 → 7 < kind → IsOpenFault file kind place → answer ≡ answer_of (error_line name (position_of file place) kind) [] 1
       → IsLintAnswer name file answer

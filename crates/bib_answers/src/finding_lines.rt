@@ -1,11 +1,12 @@
 //! Findings that are written as lines.
 
-ghost use Rattle.std.specs.Prelude.{◌≡◌, ◌++◌, IfOk, OnOk};
-ghost use Rattle.bib_answers.specs.Lint.{placed_at, warning_line, error_line};
+ghost use Rattle.std.specs.Prelude.{◌≡◌, ◌++◌, OnOk};
+ghost use Rattle.bib_answers.specs.Lint.{placed_at};
 
 use crate::lines::add_all;
 use crate::messages::fault_name;
 use crate::positions::{Known, Position, first_known, known_at};
+use bib_scan::ReadFault;
 use itoa::Buffer;
 use std::alloc::{AllocError, Global};
 use std::marker::Model;
@@ -34,9 +35,9 @@ impl<'a> Model for FindingLines<'a> {
 }
 
 impl<'a> FindingLines<'a> {
-    ghost use Rattle.std.specs.Prelude.{◌≡◌, ◌++◌, ◌+◌, [], OnOk};
+    ghost use Rattle.std.specs.Prelude.{◌≡◌, ◌++◌, ◌+◌, ◌∷◌, [], OnOk};
     ghost use Rattle.bib_answers.specs.Lint.{found};
-    ghost use Rattle.bib_answers.specs.FindingLines.{Written, at_item, with_findings};
+    ghost use Rattle.bib_answers.specs.FindingLines.{Written, at_item, with_findings, with_faults};
 
     /// No lines yet, of a file with this name and these bytes.
     pub fn new(alloc: Global, name: &'a [u8], file: &'a [u8]) -> Self
@@ -88,6 +89,28 @@ impl<'a> FindingLines<'a> {
         self.add_after(at, 0, before, name, after)
     }
 
+    /// Adds the line of a fault of reading, whose place is counted from the beginning of the file.
+    fn add_fault(&mut self, fault: &ReadFault) -> Result<(), AllocError>
+        ensures { OnOk result (self.new ≡ with_faults self.old (fault.now ∷ [])) }
+    {
+        self.known = known_at(self.file, self.known, fault.place);
+        add_place(&mut self.text, self.name, self.known.at)?;
+        let mut number = Buffer::new();
+        let number = number.format(fault.kind).as_bytes();
+        let name = fault_name(fault.kind).as_bytes();
+        add_all(&mut self.text, &[b"error: ", number, b" ", name, b"\n"])
+    }
+
+    /// Adds a line for each fault of reading. Their places are counted from the beginning of the file.
+    pub fn add_faults(&mut self, faults: &[ReadFault]) -> Result<(), AllocError>
+        ensures { OnOk result (self.new ≡ with_faults self.old faults.now) }
+    {
+        'faults: for fault in faults {
+            self.add_fault(fault)?;
+        }
+        Ok(())
+    }
+
     /// The lines.
     pub fn into_text(self) -> Vec<u8>
         ensures { result.items ≡ self.entry.text }
@@ -105,15 +128,4 @@ fn add_place(out: &mut Vec<u8>, file: &[u8], at: Position) -> Result<(), AllocEr
     let line = line.format(at.line).as_bytes();
     let column = column.format(at.column).as_bytes();
     add_all(out, &[file, b":", line, b":", column, b": "])
-}
-
-/// The line of a fault of reading: the file's name, a position, and the number and name of the fault.
-pub fn error_line(alloc: Global, file: &[u8], at: Position, kind: u8) -> Result<Vec<u8>, AllocError>
-    ensures { IfOk result (λ line. line.items ≡ error_line file.now at kind) }
-{
-    let said = format!(in alloc; "error: {} {}\n", kind, fault_name(kind))?;
-    let mut out = Vec::new(alloc);
-    add_place(&mut out, file, at)?;
-    out.extend_from_slice(said.as_bytes())?;
-    Ok(out)
 }

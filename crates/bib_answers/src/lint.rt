@@ -1,27 +1,31 @@
 //! `lint`: what is wrong with a file, a line each, as compilers write it.
 
-ghost use Rattle.std.specs.Prelude.{◌≡◌, ◌+◌, ◌<◌, ◌^◌, ◌≢◌, ℕ, List, [], IfOk, OnOk};
-ghost use Rattle.bib_answers.specs.Lint.{lint_lines, lint_status, lint_answer, IsLintAnswer};
+ghost use Rattle.std.specs.Prelude.{◌≡◌, ◌+◌, ◌<◌, ◌^◌, ℕ, List, [], nat_lt, IfOk, OnOk};
+ghost use Rattle.std.specs.List.{flat_map};
+ghost use Rattle.bib_faults.specs.GoingOn.{Fault, Faults};
+ghost use Rattle.bib_answers.specs.Lint.{lint_lines, lint_status, lint_answer, error_line, fault_lines, IsLintAnswer};
 ghost use Rattle.bib_answers.specs.LintedThrough.{IsLintedBefore};
 ghost use Rattle.bib_answers.specs.Outcome.{answer_of};
 ghost use Rattle.bib_answers.specs.Positions.{position_of};
-ghost use Rattle.bib_answers.specs.Lint.{error_line};
-ghost use Rattle.bib_store.specs.Readings.{OfReading, IsItemNumber};
+ghost use Rattle.bib_store.specs.Readings.{OfReading, IsItemNumber, IsOpenFault};
 
 use crate::answers::{Answer, outcome_of};
 use crate::check::counted;
-use crate::finding_lines::{FindingLines, error_line};
+use crate::finding_lines::FindingLines;
 use crate::findings::add_item_findings;
 use crate::kinds::is_same_kind;
 use crate::numbered::NumberedItem;
-use crate::positions::{first_known, known_at};
 use crate::seen_names::SeenNames;
+use bib_faults::read_all;
 use bib_scan::{Kind, ReadFault, Text};
 use bib_store::{Database, Paged};
 use bib_words::status;
 use std::alloc::{AllocError, Global};
 
-/// What is wrong with the file that has this name and these bytes, or where it is not valid.
+/// The last of the faults of reading, by number: faults with a greater number are of files that are valid or too long.
+const LAST_OF_READING: u8 = 7;
+
+/// What is wrong with the file that has this name and these bytes, or each place where it is not valid.
 pub fn answer_lint(alloc: Global, name: &[u8], file: &[u8]) -> Result<Answer, AllocError>
     ensures { IfOk result (IsLintAnswer name.now file.now) }
 {
@@ -31,16 +35,50 @@ pub fn answer_lint(alloc: Global, name: &[u8], file: &[u8]) -> Result<Answer, Al
     }
 }
 
-/// The answer to a file that is not opened; want of memory is no answer.
+/// Whether a file with this fault is valid or too long.
+fn is_past_reading(fault: ReadFault) -> bool
+    ensures { result ≡ nat_lt 7 fault.kind }
+{
+    fault.kind > LAST_OF_READING
+}
+
+/// The answer to a file that is not opened: each fault of reading, or the one fault for which a file that has none is not
+/// opened. Want of memory is no answer.
 fn unread(alloc: Global, name: &[u8], file: &[u8], fault: ReadFault) -> Result<Answer, AllocError>
-    ensures { IfOk result (λ answer. (fault.kind ≢ 10) × (answer ≡ answer_of (error_line name.now (position_of file.now fault.place) fault.kind) [] 1)) }
+    requires { IsOpenFault file.now fault.kind fault.place }
+    ensures { IfOk result (IsLintAnswer name.now file.now) }
 {
     if fault.is_memory() {
         return Err(AllocError);
     }
-    let at = known_at(file, first_known(), fault.place).at;
-    let line = error_line(alloc, name, at, fault.kind)?;
-    Ok(told(alloc, line, status::REFUSED))
+    if is_past_reading(fault) {
+        return answer_faults(alloc, name, file, &[fault]);
+    }
+    answer_all(alloc, name, file)
+}
+
+/// A line for each fault of reading. The file is not too long, since its first fault was found.
+fn answer_all(alloc: Global, name: &[u8], file: &[u8]) -> Result<Answer, AllocError>
+    ensures { IfOk result (λ answer. (faults : List Fault) × Faults file.now faults × (answer ≡ answer_of (fault_lines name.now file.now faults) [] 1)) }
+{
+    match read_all(alloc, file) {
+        Ok(faults) => answer_faults(alloc, name, file, faults.as_slice()),
+        Err(_) => Err(AllocError),
+    }
+}
+
+/// The answer with a line for each of these faults.
+fn answer_faults(
+    alloc: Global,
+    name: &[u8],
+    file: &[u8],
+    faults: &[ReadFault],
+) -> Result<Answer, AllocError>
+    ensures { IfOk result (λ answer. answer ≡ answer_of (flat_map (λ fault. error_line name.now (position_of file.now fault.place) fault.kind) faults.now) [] 1) }
+{
+    let mut lines = FindingLines::new(alloc, name, file);
+    lines.add_faults(faults)?;
+    Ok(told(alloc, lines.into_text(), status::REFUSED))
 }
 
 /// The answer with these lines as output, and this status.

@@ -3,12 +3,13 @@ use Rattle.bib_run.proofs.Words.{◌≡◌, ◌≢◌, ◌≤◌, ◌==◌, ℕ,
 use Rattle.bib_run.proofs.Words.{no_reading, IsOpenFault, KeptSteps, AddMany, Request, Additions, AreAdditions, SessionFault, Saved, Saves, SessionState, idle, Opens, IsOpened, HasTurned, one-opening, opened_is_sound, open_fault, Command, Answer, refusal_line, answer_of, IsCatAnswer, AnswersFile}
 use Rattle.bib_run.proofs.Words.{said_of, position_of, IsLintAnswer, error_line, IsUnopened, IsUnopenedAnswer, IsUnfit, OpensWith, judged_journal, bad_journal_line, fault_line, outcome_after, AnswersSession, AnswersInput, HasEdited, HasEditedBy, HasEditedByWords, IsEditAnswer, IsWordsAnswer}
 use Rattle.bib_run.proofs.Words.{edited_answer, stop_line, fault_message, HasAdded, HasImported, IsImportAnswer, IsTurnAnswer, IsLogAnswer, IsForgetAnswer, first_word, key_words, shown}
-use Rattle.std.proofs.Common.{ap₂, if◌then◌else◌, IsSomeAnd}
+use Rattle.std.proofs.Common.{ap₂, ◌<◌, if◌then◌else◌, IsSomeAnd}
 use Rattle.bib_spec.proofs.Names.{eq-true}
 use Rattle.bib_spec.specs.Bytes.{name_limit}
 use Rattle.bib_spec.specs.Reading.{Reads, HasReading, HasReadingWithin}
 use Rattle.bib_spec.specs.Texts.{too_long_at}
-use Rattle.bib_spec.specs.Fault.{IsFaultAt, fault_number, too_long, no_memory}
+use Rattle.bib_spec.specs.Fault.{IsFaultAt, ReadingFault, fault_number, too_long, no_memory}
+use Rattle.bib_spec.specs.Fault as reading
 use Rattle.bib_scan.proofs.OneReading.{one_reading}
 use Rattle.bib_scan.proofs.PlaceLaws.{one_place, one_fault}
 use Rattle.bib_data.specs.declared.edit.NewEntry.{NewEntry}
@@ -28,7 +29,9 @@ use Rattle.bib_journal.specs.Session.{started}
 use Rattle.bib_journal.proofs.Moves.{none_open}
 use Rattle.bib_journal.proofs.OneResult.{one-result, one_saved, one_does, one_refusal, not_both}
 use Rattle.bib_answers.specs.Names.{Spells, IsNamesAnswer, names_answer}
-use Rattle.bib_answers.specs.Lint.{lint_answer}
+use Rattle.bib_answers.specs.Lint.{lint_answer, fault_lines}
+use Rattle.bib_faults.specs.GoingOn.{Fault}
+use Rattle.bib_faults.proofs.GoingOnLaws.{one-list-of-faults}
 use Rattle.bib_run.specs.ImportAnswer.{import_fault_line, added_answer}
 use Rattle.bib_run.specs.Turns.{turned_line}
 use Rattle.bib_run.specs.Log.{log_text, journal_left}
@@ -93,12 +96,38 @@ one_of_file answers file a b (AnswersFile.refused kind place told fault is) (Ans
 one_of_file answers file a b (AnswersFile.refused kind place told fault is) (AnswersFile.refused kind' place' told' fault' is') =
     is ∙ same_refusal kind place kind' place' (one_open_fault file kind place kind' place' told told' fault fault') ∙ sym is'
 
+-- the faults of reading have the numbers up to 7
+reading_is_low : (fault : ReadingFault) → 7 < fault_number fault → ⊥
+reading_is_low reading.Unended past = omega (arith, past)
+reading_is_low reading.ExpectedName past = omega (arith, past)
+reading_is_low reading.ExpectedEquals past = omega (arith, past)
+reading_is_low reading.ExpectedCommaOrClose past = omega (arith, past)
+reading_is_low reading.ExpectedValue past = omega (arith, past)
+reading_is_low reading.UnbalancedBrace past = omega (arith, past)
+reading_is_low reading.KeyTooLong past = omega (arith, past)
+
+-- a file with a fault past those of reading is too long or has a reading
+past_is_read : (file : Text) (kind place : ℕ) → kind ≢ 10 → 7 < kind → length file ≤ file_limit → (HasReading file → ⊥) → IsOpenFault file kind place → ⊥
+past_is_read file kind place told past short unread (inl fault) = of_read kind place fault told past
+  where
+    of_read : (k p : ℕ) → IsReadFault file k p → k ≢ 10 → 7 < k → ⊥
+    of_read k p (too_long over) told past = omega (arith, over, short)
+    of_read k p (no_reading fault at within failing wrong) told past = reading_is_low fault past
+    of_read k p (no_memory within) told past = told refl
+past_is_read file kind place told past short unread (inr text) = unread (text.db, text.reads)
+
 one_lint : (name file : Text) → One (IsLintAnswer name file)
 one_lint name file a b (IsLintAnswer.opened db opens is) (IsLintAnswer.opened db' opens' is') =
     is ∙ ap (lint_answer name file) (one_reading name_limit file db db' opens.reads opens'.reads) ∙ sym is'
-one_lint name file a b (IsLintAnswer.opened db opens is) (IsLintAnswer.refused kind place told fault is') = absurd (told (open_fault file kind place (db, opens) fault))
-one_lint name file a b (IsLintAnswer.refused kind place told fault is) (IsLintAnswer.opened db opens is') = absurd (told (open_fault file kind place (db, opens) fault))
-one_lint name file a b (IsLintAnswer.refused kind place told fault is) (IsLintAnswer.refused kind' place' told' fault' is') =
+one_lint name file a b (IsLintAnswer.opened db opens is) (IsLintAnswer.faulty short unread faults are is') = absurd (unread (db, opens.reads))
+one_lint name file a b (IsLintAnswer.opened db opens is) (IsLintAnswer.refused kind place told past fault is') = absurd (told (open_fault file kind place (db, opens) fault))
+one_lint name file a b (IsLintAnswer.faulty short unread faults are is) (IsLintAnswer.opened db opens is') = absurd (unread (db, opens.reads))
+one_lint name file a b (IsLintAnswer.faulty short unread faults are is) (IsLintAnswer.faulty short' unread' faults' are' is') =
+    is ∙ ap (λ (fs : List Fault). answer_of (fault_lines name file fs) [] 1) (one-list-of-faults file faults faults' are are') ∙ sym is'
+one_lint name file a b (IsLintAnswer.faulty short unread faults are is) (IsLintAnswer.refused kind place told past fault is') = absurd (past_is_read file kind place told past short unread fault)
+one_lint name file a b (IsLintAnswer.refused kind place told past fault is) (IsLintAnswer.opened db opens is') = absurd (told (open_fault file kind place (db, opens) fault))
+one_lint name file a b (IsLintAnswer.refused kind place told past fault is) (IsLintAnswer.faulty short unread faults are is') = absurd (past_is_read file kind place told past short unread fault)
+one_lint name file a b (IsLintAnswer.refused kind place told past fault is) (IsLintAnswer.refused kind' place' told' past' fault' is') =
     let same = one_open_fault file kind place kind' place' told told' fault fault' in
     is ∙ ap₂ (λ (k p : ℕ). answer_of (error_line name (position_of file p) k) [] 1) same.0 same.1 ∙ sym is'
 

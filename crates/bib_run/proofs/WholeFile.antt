@@ -139,8 +139,9 @@ fault_position bytes kind place long (inr fault) = absurd (front_is_long bytes l
 
 IsLintAnswer-long : (name bytes : Text) (answer : Answer) → file_limit < length bytes → IsLintAnswer name (take (file_limit + 1) bytes) answer → IsLintAnswer name bytes answer
 IsLintAnswer-long name bytes answer long (linting.opened db opens is) = absurd (front_is_long bytes long opens.short)
-IsLintAnswer-long name bytes answer long (linting.refused kind place other fault is) =
-    linting.refused kind place other (IsOpenFault-long bytes kind place long fault)
+IsLintAnswer-long name bytes answer long (linting.faulty short unread faults are is) = absurd (front_is_long bytes long short)
+IsLintAnswer-long name bytes answer long (linting.refused kind place other past fault is) =
+    linting.refused kind place other past (IsOpenFault-long bytes kind place long fault)
     (is ∙ ap (λ (at : Position). answer_of (error_line name at kind) [] 1) (fault_position bytes kind place long fault))
 
 IsEditsAnswer-long : (command : Command) (bytes : Text) (journal : Option Text) (input : Text) (answer : Answer) → file_limit < length bytes

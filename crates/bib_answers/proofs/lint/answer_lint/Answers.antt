@@ -1,5 +1,5 @@
 use Rattle.bib_answers.proofs.Words.{◌≡◌, subst, IfOk-weaker, Text, OfReading}
-use Rattle.bib_answers.specs.Lint.{opened, refused, lint_answer}
+use Rattle.bib_answers.specs.Lint.{opened, lint_answer}
 use Rattle.bib_answers.proofs.lint.answer_lint.Goals as goal
 
 pub returns-in-Ok : goal.returns-in-Ok
@@ -9,4 +9,4 @@ returns-in-Ok c = IfOk-weaker c.lint.result _ _ (λ answer h.
     c.lint.ensures
 
 pub returns-in-Err : goal.returns-in-Err
-returns-in-Err c = IfOk-weaker c.unread.result _ _ (λ answer h. refused c.in-Err.fault.kind c.in-Err.fault.place h.0 c.in-Err.ensures.fault h.1) c.unread.ensures
+returns-in-Err c = c.unread.ensures

@@ -1,0 +1,4 @@
+pub mod GoingOnLaws
+pub mod EachHasFaults
+pub mod ReadingSteps
+pub mod FaultRows

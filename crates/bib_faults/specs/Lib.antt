@@ -1,0 +1,4 @@
+pub mod GoingOn
+pub mod Told
+pub mod FaultLaws
+pub mod FaultRows
