@@ -19,11 +19,12 @@ const OWN: u32 = 0o600;
 const PERMISSIONS: u32 = 0o777;
 
 /// The folders of the system. A new file gets the permissions of `file`, but not its set-user-ID, set-group-ID and sticky
-/// bits.
+/// bits. The first of the new files stays open, and so it stays locked until both are in place.
 #[derive(Drop)]
 pub struct Disk<'a> {
     pub rt: &'a HostRuntime,
     pub file: &'a File,
+    pub first: Option<File>,
 }
 
 impl Folder for Disk<'_> {
@@ -43,11 +44,17 @@ impl Folder for Disk<'_> {
             .create_new(true)
             .mode(OWN)
             .open(self.rt, path)?;
+        // From the moment when the new file is in place, another run may open it: it waits until the journal is in place too.
+        let _ = file.lock();
         if !write_whole(&mut Tap::new(&file), bytes) {
             return Err(ErrorKind::WriteZero.into());
         }
         file.set_permissions(Permissions::from_mode(permissions))?;
-        file.sync_all()
+        file.sync_all()?;
+        if self.first.is_none() {
+            self.first = Some(file);
+        }
+        Ok(())
     }
 
     fn rename(&mut self, from: &str, to: &str) -> io::Result<()> {

@@ -125,7 +125,11 @@ fn run_opened(
         say_unstored(rt, alloc, command, hints, Some(error));
         return status;
     }
-    let mut disk = Disk { rt, file };
+    let mut disk = Disk {
+        rt,
+        file,
+        first: None,
+    };
     match &opened.journal {
         Journal::Found(journal) => {
             run_stored(rt, alloc, command, hints, &mut disk, paths, file, Some(journal))
