@@ -90,6 +90,8 @@ export function run(module, args, fs) {
     unlink: (at) => done(() => fs.unlinkSync(path(at))),
     // Node has no locks, so two runs on one file at once are not kept apart
     flock: () => 0,
+    // a page has no terminal
+    isatty: (file) => (fs.isatty?.(file) ? 1 : 0),
   };
 
   const { exports } = new WebAssembly.Instance(module, { env });
@@ -112,10 +114,11 @@ function read(fs, file, into) {
 
 async function main() {
   const fs = await import("node:fs");
+  const { isatty } = await import("node:tty");
   const { pathToFileURL } = await import("node:url");
   if (import.meta.url !== pathToFileURL(fs.realpathSync(process.argv[1])).href) return;
   const module = new WebAssembly.Module(fs.readFileSync(new URL("bibkeep.wasm", import.meta.url)));
-  process.exitCode = run(module, process.argv.slice(2), { ...fs, path: (bytes) => Buffer.from(bytes) });
+  process.exitCode = run(module, process.argv.slice(2), { ...fs, isatty, path: (bytes) => Buffer.from(bytes) });
 }
 
 if (globalThis.process?.versions?.node && process.argv[1]) await main();

@@ -165,4 +165,6 @@ when edit hinted.bib remove podc; ends_with 1; says 'bibkeep: 39 Referred'
 when edit hinted.bib --print set knuth author Knuth; ends_with 0; says_nothing
 
 # Hints change nothing else, whatever the file.
-when_shell_runs 'python3 "$root/tests/program/hints_change_nothing.py" "$program"'; ends_with 0; writes_nothing
+if [ -z "${1-}" ] && command -v python3 >/dev/null; then
+    when_shell_runs 'python3 "$root/tests/program/hints_change_nothing.py" "$program"'; ends_with 0; writes_nothing
+fi

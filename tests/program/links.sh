@@ -123,6 +123,8 @@ for len in 235 236; do
 done
 
 # A pipe has no journal, and no place for one.
-when_shell_runs 'printf "@misc{a}" | "$program" edit --print /dev/stdin set a t 1'; ends_with 0; prints '@misc{a,\n  t = 1}'; says_nothing
-when_shell_runs 'printf "@misc{a}" | "$program" log /dev/stdin'; ends_with 0; writes_nothing; says_nothing
-when_shell_runs 'printf "@misc{a}" | "$program" edit /dev/stdin set a t 1'; ends_with 3; prints 'applied 1\n'; says 'bibkeep: write fault'
+if [ -e /dev/stdin ]; then
+    when_shell_runs 'printf "@misc{a}" | "$program" edit --print /dev/stdin set a t 1'; ends_with 0; prints '@misc{a,\n  t = 1}'; says_nothing
+    when_shell_runs 'printf "@misc{a}" | "$program" log /dev/stdin'; ends_with 0; writes_nothing; says_nothing
+    when_shell_runs 'printf "@misc{a}" | "$program" edit /dev/stdin set a t 1'; ends_with 3; prints 'applied 1\n'; says 'bibkeep: write fault'
+fi

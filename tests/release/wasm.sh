@@ -8,7 +8,7 @@ answers_in_node() {
     cp "$root/crates/bibkeep/out/static/bibkeep.wasm" "$root/release/bibkeep.mjs" module
     given there "#!/bin/sh\nexec node $PWD/module/bibkeep.mjs \"\$@\"\n"
     chmod 755 there
-    lacks='run_in_16_MB run_in_400_MB keep_streams_closed take_any_bytes' add_cases_of "$root/tests/program/run" there
+    lacks='run_in_16_MB run_in_400_MB keep_streams_closed take_any_bytes lock_files be_at_a_terminal' add_cases_of "$root/tests/program/run" there
 }
 
 # The files in memory of the page are as Node's: an edit and its undo leave the same bytes.
