@@ -37,12 +37,16 @@ plain-more text n front inside plain = record {
   where
     byte : ℕ
     byte = get_or text n 0
+
     rest : List ℕ
     rest = drop (n + 1) text
+
     cut : drop n text ≡ byte ∷ rest
     cut = drop_more text n 0 inside
+
     shows : shown (drop n text) ≡ byte ∷ shown rest
     shows = ap shown cut ∙ shown-plain byte rest (subst (λ t. begins_with_control t ≡ false) cut plain)
+
     next : shown text ≡ take (n + 1) text ++ shown rest
     next = front.plain n (omega arith) ∙ ap (λ t. take n text ++ t) shows ∙ sym (append_assoc (take n text) (byte ∷ []) (shown rest)) ∙ ap (λ t. t ++ shown rest) (sym (take_more text n 0 inside))
 

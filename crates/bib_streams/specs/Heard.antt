@@ -29,5 +29,5 @@ kept_bytes k = option_map (λ bytes. bytes.items) k.bytes
 -- the bytes that a read gave are kept with those before them, unless none are kept from now on
 abbrev pub Keeps : {R E : Type 0} → Kept R → Kept R → List ℕ → Result ℕ E → Type 0
 Keeps old new buf r = MatchResult r
-  (λ n. IfSome (kept_bytes new) (λ bytes. (before : List ℕ) × (kept_bytes old ≡ Some before) × (bytes ≡ before ++ take n buf)))
-  (λ _. kept_bytes new ≡ kept_bytes old)
+    (λ n. IfSome (kept_bytes new) (λ bytes. (before : List ℕ) × (kept_bytes old ≡ Some before) × (bytes ≡ before ++ take n buf)))
+    (λ _. kept_bytes new ≡ kept_bytes old)

@@ -42,7 +42,7 @@ pub stored_so : (paths : Option Paths) (at : Paths) (outcome : Outcome) (status 
     → IsFinished paths outcome status old new
 stored_so paths at outcome status file journal old new place is is_file is_journal told =
     IsFinished.stored at place is (subst (λ (f : Option Text). Told (AreStored at f outcome.journal) old new) is_file
-      (subst (λ (j : Option Text). Told (AreStored at file j) old new) is_journal told))
+    (subst (λ (j : Option Text). Told (AreStored at file j) old new) is_journal told))
 
 -- what the outcome leaves could not be stored
 pub unstored_so : (paths : Option Paths) (at : Paths) (outcome : Outcome) (status : ℕ) (file : Option Text) (old new : Option Files)

@@ -132,14 +132,32 @@ fn run_opened(
     };
     match &opened.journal {
         Journal::Found(journal) => {
-            run_stored(rt, alloc, command, hints, &mut disk, paths, file, Some(journal))
+            run_stored(
+                rt,
+                alloc,
+                command,
+                hints,
+                &mut disk,
+                paths,
+                file,
+                Some(journal),
+            )
         }
         Journal::Link => {
             let damaged = Some(b"".as_slice());
             run_stored(rt, alloc, command, hints, &mut disk, paths, file, damaged)
         }
         Journal::Missing => {
-            run_stored(rt, alloc, command, hints, &mut disk, paths, file, None::<&File>)
+            run_stored(
+                rt,
+                alloc,
+                command,
+                hints,
+                &mut disk,
+                paths,
+                file,
+                None::<&File>,
+            )
         }
     }
 }
