@@ -17,6 +17,8 @@ case $1 in
 version) echo "a toolchain" ;;
 lib) grep -qv wrong src/lib.rt && mkdir -p out/rlib && : >out/rlib/stamp ;;
 run) mkdir -p out && { echo "#!/bin/sh"; echo cat "$PWD/../low/src/lib.rt"; } >out/bibkeep && chmod 755 out/bibkeep ;;
+must-fail) cat "crates/$2"/must-fail/*.edit && ! grep -q right "crates/$2"/must-fail/*.edit ;;
+ci) mkdir crates/low/out && touch crates/low/out/made && find crates -name "*.edit" | sort && echo "1 passed, 0 failed" ;;
 esac
 '
 chmod 755 rt
@@ -39,6 +41,8 @@ copy_scripts() {
     mkdir -p "$1/tests"
     cp -R "$root/bibkeep" "$root/install" "$root/tools" "$root/man" "$root/completions" "$root/docs" "$root/README.md" "$root/HANDLES" "$1"
     cp -R "$root/tests/release" "$1/tests"
+    mkdir "$1/.ci"
+    cp "$root/.ci/prove" "$1/.ci"
     cp static "$1/tools/static"
 }
 
