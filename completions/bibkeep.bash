@@ -5,7 +5,7 @@
 
 _bibkeep() {
     local commands='cat check lint show cite labels json names newkeys edit undo redo log forget ris import explain help'
-    local verbs='set drop add remove move rename-key rename-macro inline introduce regenerate'
+    local verbs='set drop add remove move set-type rename-key rename-macro inline introduce regenerate'
     local IFS=$' \t\n' words=() current='' begun='' quote='' tilde='' is_target='' own=() has_ended='' options='' i
 
     COMPREPLY=()

@@ -109,7 +109,7 @@ complete -c bibkeep -n '__fish_seen_subcommand_from cite' -l min-crossrefs -x -d
 complete -c bibkeep -n '__bibkeep_has 1 cat check lint show cite labels json names newkeys edit undo redo log forget ris import' -k -a '(__fish_complete_suffix .bib)'
 complete -c bibkeep -n '__bibkeep_has 2 show names' -a '(__bibkeep_keys)'
 complete -c bibkeep -n '__bibkeep_has_at_least 2 cite labels json ris' -a '(__bibkeep_keys)'
-complete -c bibkeep -n '__bibkeep_has 2 edit' -a 'set drop add remove move rename-key rename-macro inline introduce regenerate'
+complete -c bibkeep -n '__bibkeep_has 2 edit' -a 'set drop add remove move set-type rename-key rename-macro inline introduce regenerate'
 complete -c bibkeep -n '__bibkeep_edits 3 set drop remove move rename-key' -a '(__bibkeep_keys)'
 complete -c bibkeep -n '__bibkeep_edits 3 inline rename-macro' -a '(__bibkeep_macros)'
 complete -c bibkeep -n '__bibkeep_edits 4 set drop' -a '(__bibkeep_fields)'

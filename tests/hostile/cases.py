@@ -227,6 +227,7 @@ EDITING = [
     ),
     edited(FIELD, b"set\ta\ty\t{2}", [(14, b"", b",\n  y = {2}")], b"@misc{a, t = 1,\n  y = {2},}"),
     edited(FIELD, b"drop\ta\tT\n", [(7, b", t = 1", b"")], b"@misc{a,}"),
+    edited(FIELD, b"set-type\ta\tbook\n", [(1, b"misc", b"book")], b"@book{a, t = 1,}"),
     edited(TWO, b"move\ta\t1\n", [(0, b"@misc{a}", b""), (18, b"", b"@misc{a}\n")], b"\n@misc{b}\n@misc{a}\n"),
     edited(
         CONFERENCE,

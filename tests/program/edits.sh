@@ -64,6 +64,32 @@ given_edit '@misc{c, crossref = {p}}@misc{p}' 'drop\tc\tcrossref\nremove\tp'
 given wanted 'applied 2\n'
 edit; ends_with 0; writes wanted; says_nothing; leaves '@misc{c}'
 
+# An entry gets another type, written as in the line; the white space around the old one stays.
+given wanted 'applied 1\n'
+given_edit 'x@Misc {a, t = 1}' 'set-type\tA\tArticle'
+edit; ends_with 0; writes wanted; says_nothing; leaves 'x@Article {a, t = 1}'
+given_edit '@ \n\tmisc(a , t = jan)@misc{b, crossref = {a}}' 'set-type\ta\tbook'
+edit; ends_with 0; writes wanted; says_nothing; leaves '@ \n\tbook(a , t = jan)@misc{b, crossref = {a}}'
+given_edit '@misc{}@misc{a}' 'set-type\ta\ta.b-c'
+edit; ends_with 0; writes wanted; says_nothing; leaves '@misc{}@a.b-c{a}'
+given_edit '@misc{a}' 'set-type\ta\tmisc'
+edit; ends_with 0; writes wanted; says_nothing; leaves '@misc{a}'
+given wanted 'applied 0\n'
+for type in string Preamble COMMENT 1a 'a b' a@b a{ ''; do
+    given_edit '@misc{a}' "set-type\\ta\\t$type"
+    edit; ends_with 1; writes wanted; says 'bibkeep: line 1: 32 BadName'; leaves '@misc{a}'
+done
+given_edit '@misc{a}' 'set-type\tb\tstring'
+edit; ends_with 1; writes wanted; says 'bibkeep: line 1: 32 BadName'
+given_edit '@misc{a}' 'set-type\tb\tbook'
+edit; ends_with 1; writes wanted; says 'bibkeep: line 1: 35 NotFound'
+given_edit '@misc{a}@misc{A}' 'set-type\ta\tbook'
+edit; ends_with 1; writes wanted; says 'bibkeep: line 1: 36 Ambiguous'
+given_edit '@misc{a}' 'set-type\ta'
+edit; ends_with 1; writes wanted; says 'bibkeep: line 1: 71 BadScript'
+given_edit '@misc{a}' 'set-type\ta\tbook\tx'
+edit; ends_with 1; writes wanted; says 'bibkeep: line 1: 71 BadScript'
+
 # Only the line that was asked for differs.
 given_edit '@string{m = 1}\n@Article( a ,\n\tT = {x}  # m,\n  y="z" ,\n)\ntail @ end\n' 'set\tA\ty\t{w}\n'
 cp edited.bib before.bib

@@ -55,8 +55,9 @@ when_edited rename-macro cup jan; hinted '38 NameInUse' '  jan is the name of a 
 when_edited remove podc; hinted '39 Referred' '  the crossref of ld86 in line 7 names podc
   the crossref of ld87 in line 8 names podc
   first type, for each of them: bibkeep edit hinted.bib drop ld87 crossref'
-when_edited set-type knuth book; hinted '71 BadScript' '  set-type is no edit
-  the edits: set drop add remove move rename-key rename-macro inline introduce regenerate; in a script also group end'
+when_edited set-type knuth string; hinted '32 BadName' '  string is no type of an entry, such as book or article'
+when_edited retype knuth book; hinted '71 BadScript' '  retype is no edit
+  the edits: set drop add remove move set-type rename-key rename-macro inline introduce regenerate; in a script also group end'
 when_edited drop knuth; hinted '71 BadScript' '  its words are: drop KEY FIELD
   bibkeep help edit says more'
 when explain --hints foo; ends_with 1; hinted '13 NoSuchFault' '  foo is neither the number nor the name of a fault'

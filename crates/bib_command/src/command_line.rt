@@ -262,6 +262,7 @@ by tabs (shown here as spaces):
   add POSITION TYPE KEY FIELD VALUE ..   inserts an entry before item POSITION, counted from 0
   remove KEY                             removes the entry
   move KEY POSITION                      moves the entry before item POSITION of the others
+  set-type KEY TYPE                      gives the entry another type, such as book
   rename-key FROM TO                     changes the entry's key and the crossrefs to it
   rename-macro FROM TO                   renames the macro, in its definition and the uses after it
   inline NAME                            replaces the macro's uses by its text, and removes its definition

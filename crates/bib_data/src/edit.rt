@@ -38,4 +38,6 @@ pub enum Edit {
     /// Replaces each part that is the text, in braces or in quotes, by a use of a new macro, defined as the text before the
     /// first use.
     IntroduceMacro { name: Text, text: Text },
+    /// Gives the entry another type, written as here.
+    SetType { key: Text, kind_name: Text },
 }

@@ -4,8 +4,8 @@ use Rattle.bib_edit.proofs.Words.{regenerate_keys}
 use Rattle.bib_scan.proofs.PlaceOfFault.{value_or_failing}
 use Rattle.bib_edit.specs.Laws.{EditsAreAskedFor}
 use Rattle.edit_spec.specs.Edits as edits
-use Rattle.bib_data.specs.declared.edit.Edit.TheVariants.{RemoveEntry, MoveEntry, RenameMacro, InlineMacro, IntroduceMacro}
-use Rattle.bib_edit.specs.Asking.{drop_field, remove_entry, rename_macro, inline_macro, introduce_macro}
+use Rattle.bib_data.specs.declared.edit.Edit.TheVariants.{RemoveEntry, MoveEntry, RenameMacro, InlineMacro, IntroduceMacro, SetType}
+use Rattle.bib_edit.specs.Asking.{drop_field, remove_entry, rename_macro, inline_macro, introduce_macro, set_type}
 
 pub of-set_field : (key field value : Text) (P : edits.Edit → Type 0) → ((v : Value) → Spells value v → P (edits.SetField key field v)) → OfEdit (SetField key field value) P
 of-set_field key field value P h e (set_field k f t v s) = h v s
@@ -52,6 +52,7 @@ asked_for (RegenerateKeys depth) = (edits.RegenerateKeys depth, regenerate_keys 
 asked_for (RenameMacro from to) = (edits.RenameMacro from to, rename_macro from to)
 asked_for (InlineMacro name) = (edits.InlineMacro name, inline_macro name)
 asked_for (IntroduceMacro name text) = (edits.IntroduceMacro name text, introduce_macro name text)
+asked_for (SetType key kind_name) = (edits.SetType key kind_name, set_type key kind_name)
 
 pub of-add_entry : (position : ℕ) (asked : NewEntry) (P : edits.Edit → Type 0) → ((new : edits.NewEntry) → SpellsEntry asked new → P (edits.AddEntry position new)) → OfEdit (AddEntry position asked) P
 of-add_entry position asked P h e (add_entry n a new spells) = h new spells
@@ -79,3 +80,6 @@ of-inline_macro name P h e (inline_macro n) = h
 
 pub of-introduce_macro : (name text : Text) (P : edits.Edit → Type 0) → P (edits.IntroduceMacro name text) → OfEdit (IntroduceMacro name text) P
 of-introduce_macro name text P h e (introduce_macro n t) = h
+
+pub of-set_type : (key kind_name : Text) (P : edits.Edit → Type 0) → P (edits.SetType key kind_name) → OfEdit (SetType key kind_name) P
+of-set_type key kind_name P h e (set_type k t) = h

@@ -16,3 +16,4 @@ has_key_base (edits.RenameMacro from to) = tt
 has_key_base (edits.InlineMacro name) = tt
 has_key_base (edits.IntroduceMacro name text) = tt
 has_key_base (edits.AddMany news) = tt
+has_key_base (edits.SetType key kind_name) = tt

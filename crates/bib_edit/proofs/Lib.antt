@@ -29,6 +29,8 @@ pub mod SettingFields
 pub mod SettingPieces
 pub mod CuttingRows
 pub mod DroppingFields
+-- ---- types that are set
+pub mod TypedEntries
 -- ---- entries that come
 pub mod NewFields
 pub mod SpelledEntries

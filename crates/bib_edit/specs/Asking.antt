@@ -5,7 +5,7 @@ use Rattle.bib_spec.specs.Tree.{Value}
 use Rattle.edit_spec.specs.Edits as edits
 use Rattle.edit_spec.specs.Edits.{Spells}
 use Rattle.bib_data.specs.declared.edit.Edit.{Edit}
-use Rattle.bib_data.specs.declared.edit.Edit.TheVariants.{SetField, DropField, AddEntry, AddMany, RemoveEntry, MoveEntry, RenameKey, RegenerateKeys, RenameMacro, InlineMacro, IntroduceMacro}
+use Rattle.bib_data.specs.declared.edit.Edit.TheVariants.{SetField, DropField, AddEntry, AddMany, RemoveEntry, MoveEntry, RenameKey, RegenerateKeys, RenameMacro, InlineMacro, IntroduceMacro, SetType}
 use Rattle.bib_data.specs.declared.edit.NewEntry.{NewEntry}
 
 -- the values are what the bytes of the fields say
@@ -41,6 +41,7 @@ pub data AsksFor : Edit → edits.Edit → Type 0 where
   rename_macro : (from to : Text) → AsksFor (RenameMacro from to) (edits.RenameMacro from to)
   inline_macro : (name : Text) → AsksFor (InlineMacro name) (edits.InlineMacro name)
   introduce_macro : (name text : Text) → AsksFor (IntroduceMacro name text) (edits.IntroduceMacro name text)
+  set_type : (key kind_name : Text) → AsksFor (SetType key kind_name) (edits.SetType key kind_name)
 
 -- it holds of the edit that is asked for
 abbrev pub OfEdit : Edit → (edits.Edit → Type 0) → Type 0

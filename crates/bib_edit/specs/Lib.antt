@@ -7,6 +7,7 @@ pub mod NewEntries
 pub mod ManyEntries
 pub mod Moving
 pub mod FieldPieces
+pub mod TypePieces
 pub mod Limits
 pub mod Dangling
 pub mod NewKeys

@@ -30,6 +30,7 @@ mod rename_key;
 mod rename_macro;
 mod replacing;
 mod set_field;
+mod set_type;
 mod taking_out;
 mod unused_keys;
 mod values;

@@ -16,6 +16,7 @@ use crate::remove_entry::remove_entry;
 use crate::rename_key::rename_key;
 use crate::rename_macro::rename_macro;
 use crate::set_field::set_field;
+use crate::set_type::set_type;
 use bib_data::Edit;
 use bib_scan::Seq;
 use bib_store::{Database, ItemList, Piece};
@@ -59,6 +60,9 @@ pub fn plan<L: ItemList>(
         Edit::InlineMacro { name } => inline_macro(alloc, db, name.as_slice()),
         Edit::IntroduceMacro { name, text } => {
             introduce_macro(alloc, db, name.as_slice(), text.as_slice())
+        }
+        Edit::SetType { key, kind_name } => {
+            set_type(alloc, db, key.as_slice(), kind_name.as_slice())
         }
     }
 }

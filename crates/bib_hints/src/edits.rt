@@ -103,7 +103,8 @@ fn hint_key(lines: &mut Lines, edit: &Edit<'_>) -> Result<(), AllocError> {
 }
 
 fn hint_name(lines: &mut Lines, edit: &Edit<'_>) -> Result<(), AllocError> {
-    if edit.is_named(b"add") && !is_type(edit.word(2)) {
+    let is_typed = edit.is_named(b"set-type") || edit.is_named(b"add") && !is_type(edit.word(2));
+    if is_typed {
         let parts = [Part::Name(edit.word(2))];
         return lines.say(b"% is no type of an entry, such as book or article", &parts);
     }

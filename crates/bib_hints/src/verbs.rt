@@ -17,6 +17,9 @@ pub fn form_of(verb: &[u8]) -> &'static [u8] {
     if verb == b"move".as_slice() {
         return b"move KEY POSITION";
     }
+    if verb == b"set-type".as_slice() {
+        return b"set-type KEY TYPE";
+    }
     if verb == b"regenerate".as_slice() {
         return b"regenerate [DEPTH]";
     }
@@ -56,7 +59,7 @@ pub fn is_verb(word: &[u8]) -> bool {
 
 /// The edits, in a line.
 pub const VERBS: &[u8] =
-    b"the edits: set drop add remove move rename-key rename-macro inline introduce regenerate; in a script also group end";
+    b"the edits: set drop add remove move set-type rename-key rename-macro inline introduce regenerate; in a script also group end";
 
 /// Whether the name is that of a month, which each file knows.
 pub fn is_month(name: &[u8]) -> bool {

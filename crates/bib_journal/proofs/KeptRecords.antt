@@ -1,6 +1,6 @@
 -- What renamings keep, of the files of a session.
 use Rattle.bib_journal.proofs.Words.{◌≡◌, ◌≢◌, ℕ, zero, suc, Bool, true, List, [], ◌∷◌, Option, Some, None, take, refl, sym, ◌∙◌, ap, subst, false≢true, name_limit, Text, Reading, Reads, bytes_of, one_reading, IsAccepted, KeptSteps, history_of, Edit, SetField, DropField, AddEntry, AddMany}
-use Rattle.bib_journal.proofs.Words.{RemoveEntry, MoveEntry, RenameKey, RegenerateKeys, RenameMacro, InlineMacro, IntroduceMacro, Request, EditFault, made_base, AsksFor, OfEdit, asked_for, has_key_base, SessionState, DoesAll, OfReadings}
+use Rattle.bib_journal.proofs.Words.{RemoveEntry, MoveEntry, RenameKey, RegenerateKeys, RenameMacro, InlineMacro, IntroduceMacro, SetType, Request, EditFault, made_base, AsksFor, OfEdit, asked_for, has_key_base, SessionState, DoesAll, OfReadings}
 use Rattle.std.proofs.Common.{◌&&◌, option_map, slice_get}
 use Rattle.std.specs.List.{list_all}
 use Rattle.std.proofs.lemmas.Bool.{and_parts}
@@ -11,10 +11,11 @@ use Rattle.edit_spec.specs.Edits.{edited, key_for}
 use Rattle.edit_spec.specs.Laws.{KeepsEntries, record_with_key, no_new_key}
 use Rattle.edit_spec.proofs.RenameKey.{rename-key-keeps}
 use Rattle.edit_spec.proofs.Regenerate.{regenerate-keys-keeps, made-keys-differ, regenerating-again}
+use Rattle.edit_spec.proofs.SetType.{set-type-keeps}
 use Rattle.edit_spec.proofs.MacroLaws.{rename-macro-keeps, inline-macro-keeps, introduce-macro-keeps}
 use Rattle.bib_data.specs.declared.request.Request.TheVariants as request
 use Rattle.bib_edit.specs.declared.fault.EditFault.TheVariants as edit_fault
-use Rattle.bib_edit.specs.Asking.{rename_key, regenerate_keys, rename_macro, inline_macro, introduce_macro}
+use Rattle.bib_edit.specs.Asking.{rename_key, regenerate_keys, rename_macro, inline_macro, introduce_macro, set_type}
 use Rattle.bib_edit.specs.Planning.{IsRefusal}
 use Rattle.bib_journal.proofs.MadeFiles.{moved_present, made-reads, of-made}
 use Rattle.bib_journal.specs.Renaming.{Keeps, edit_keeps, keys_are_made_once, is_renaming, without_key, KeepsTexts, requests_keep}
@@ -40,6 +41,8 @@ made-keeps (InlineMacro name) db db' allowed is =
 made-keeps (IntroduceMacro name text) db db' allowed is =
     subst (Keeps (IntroduceMacro name text) db) (sym (is (edits.IntroduceMacro name text) (introduce_macro name text)))
     (introduce-macro-keeps made_base db name text (allowed (edits.IntroduceMacro name text) (introduce_macro name text)))
+made-keeps (SetType key kind_name) db db' allowed is =
+    subst (Keeps (SetType key kind_name) db) (sym (is (edits.SetType key kind_name) (set_type key kind_name))) (set-type-keeps made_base db key kind_name (allowed (edits.SetType key kind_name) (set_type key kind_name)))
 made-keeps (SetField key field value) db db' allowed is = tt
 made-keeps (DropField key field) db db' allowed is = tt
 made-keeps (AddEntry position entry) db db' allowed is = tt
@@ -110,6 +113,7 @@ renaming-texts (AddEntry position entry) is old new keeps = absurd (false≢true
 renaming-texts (AddMany entries) is old new keeps = absurd (false≢true is)
 renaming-texts (RemoveEntry key) is old new keeps = absurd (false≢true is)
 renaming-texts (MoveEntry key position) is old new keeps = absurd (false≢true is)
+renaming-texts (SetType key kind_name) is old new keeps = absurd (false≢true is)
 
 texts-stay : (db : Reading) → KeepsTexts db db
 texts-stay db = record { count = refl; records = λ _ _. refl; parents = λ _. refl; preambles = refl }

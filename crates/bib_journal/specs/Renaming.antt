@@ -6,11 +6,11 @@ use Rattle.bib_spec.specs.Reading.{Reading}
 use Rattle.bib_spec.specs.Records.{Record, entries_of, preambles_of, keys_of, entry_named, parent, expanded}
 use Rattle.bib_spec.specs.MadeKeys.{new_keys}
 use Rattle.edit_spec.specs.Edits.{key_for}
-use Rattle.edit_spec.specs.Laws.{KeepsEntries, KeepsMacros, KeepsCitations, KeepsCitationsByKey, SeesRenamed, SeesInlined, SeesIntroduced, AllDiffer, no_new_key}
+use Rattle.edit_spec.specs.Laws.{KeepsEntries, KeepsAllButTypes, KeepsMacros, KeepsCitations, KeepsCitationsByKey, SeesRenamed, SeesInlined, SeesIntroduced, AllDiffer, no_new_key, type_for}
 use Rattle.history_spec.specs.Steps.{IsSound}
 use Rattle.bib_store.specs.Readings.{OfReading}
 use Rattle.bib_data.specs.declared.edit.Edit.{Edit}
-use Rattle.bib_data.specs.declared.edit.Edit.TheVariants.{RenameKey, RegenerateKeys, RenameMacro, InlineMacro, IntroduceMacro}
+use Rattle.bib_data.specs.declared.edit.Edit.TheVariants.{RenameKey, RegenerateKeys, RenameMacro, InlineMacro, IntroduceMacro, SetType}
 use Rattle.bib_data.specs.declared.request.Request.{Request}
 use Rattle.bib_data.specs.declared.request.Request.TheVariants as request
 use Rattle.bib_edit.specs.declared.fault.EditFault.{EditFault}
@@ -23,7 +23,8 @@ use Rattle.bib_journal.specs.Session.{MakesEdit, RefusesEdit, Performs}
 -- ---- one renaming
 
 -- What a renaming keeps: each entry's record and parent, each preamble, what each macro stands for, and each cited list are
--- what they were, except the names that it gives. Keys that are made all differ. Nothing is said here about other edits.
+-- what they were, except the names that it gives. Keys that are made all differ. An entry that gets another type keeps all but
+-- that type. Nothing is said here about other edits.
 abbrev pub Keeps : Edit → Reading → Reading → Type 0
 Keeps (RenameKey from to) old new = KeepsEntries (key_for (entry_named (entries_of old) from) to) old new × KeepsMacros old new × KeepsCitationsByKey old new
 Keeps (RegenerateKeys depth) old new =
@@ -31,13 +32,14 @@ Keeps (RegenerateKeys depth) old new =
 Keeps (RenameMacro from to) old new = KeepsEntries no_new_key old new × KeepsCitations old new × SeesRenamed from to old new
 Keeps (InlineMacro name) old new = KeepsEntries no_new_key old new × KeepsCitations old new × SeesInlined name old new
 Keeps (IntroduceMacro name text) old new = KeepsEntries no_new_key old new × KeepsCitations old new × SeesIntroduced name text old new
+Keeps (SetType key kind_name) old new = KeepsAllButTypes (type_for (entry_named (entries_of old) key) kind_name) old new × KeepsMacros old new × KeepsCitations old new
 Keeps other old new = Unit {0}
 
 -- it holds of what the two files say
 abbrev pub OfReadings : Text → Text → (Reading → Reading → Type 0) → Type 0
 OfReadings old new P = OfReading old (λ db. OfReading new (λ db'. P db db'))
 
--- An accepted renaming keeps every record.
+-- An accepted renaming keeps every record, and so does another type, but for that type.
 abbrev pub edit_keeps : Type 0
 edit_keeps = (edit : Edit) (old new : SessionState) → MakesEdit edit old new → OfReadings old.steps.present new.steps.present (Keeps edit)
 

@@ -10,7 +10,7 @@ use Rattle.bib_data.specs.declared.label.Label.{Label}
 use Rattle.bib_data.specs.declared.request.Request.{Request}
 use Rattle.bib_data.specs.declared.request.Request.TheVariants as request
 use Rattle.history_spec.specs.Steps.{label_of}
-use Rattle.bib_script.specs.Script.{number_of, fields_of, new_entry, set_of, drop_of, add_of, remove_of, move_of, rename_key_of, rename_macro_of, inline_of, introduce_of, depth_of, regenerate_of, renaming_of, edit_of, group_of, end_of, request_of}
+use Rattle.bib_script.specs.Script.{number_of, fields_of, new_entry, set_of, drop_of, add_of, remove_of, move_of, set_type_of, rename_key_of, rename_macro_of, inline_of, introduce_of, depth_of, regenerate_of, renaming_of, edit_of, group_of, end_of, request_of}
 
 -- the edit, if there is one, has a depth of 1 to 8, or none
 abbrev Fits : Option Edit → Type 0
@@ -60,6 +60,12 @@ move-fits [] = tt
 move-fits (a ∷ []) = tt
 move-fits (a ∷ b ∷ []) = mapped (MoveEntry a) (number_of b) (λ n. tt)
 move-fits (a ∷ b ∷ c ∷ words) = tt
+
+set_type-fits : (words : List Text) → Fits (set_type_of words)
+set_type-fits [] = tt
+set_type-fits (a ∷ []) = tt
+set_type-fits (a ∷ b ∷ []) = tt
+set_type-fits (a ∷ b ∷ c ∷ words) = tt
 
 rename_key-fits : (words : List Text) → Fits (rename_key_of words)
 rename_key-fits [] = tt
@@ -122,7 +128,8 @@ edit-fits (verb ∷ words) =
     (either (bytes_eq verb (codes "drop")) _ _ (drop-fits words)
     (either (bytes_eq verb (codes "add")) _ _ (add-fits words)
     (either (bytes_eq verb (codes "remove")) _ _ (remove-fits words)
-    (either (bytes_eq verb (codes "move")) _ _ (move-fits words) (renaming-fits verb words)))))
+    (either (bytes_eq verb (codes "move")) _ _ (move-fits words)
+    (either (bytes_eq verb (codes "set-type")) _ _ (set_type-fits words) (renaming-fits verb words))))))
 
 -- ---- the request of a line
 

@@ -8,7 +8,7 @@ use Rattle.bib_spec.specs.Texts.{is_empty}
 use Rattle.bib_spec.specs.Records.{default_depth}
 use Rattle.history_spec.specs.Steps.{label_of}
 use Rattle.bib_data.specs.declared.edit.Edit.{Edit}
-use Rattle.bib_data.specs.declared.edit.Edit.TheVariants.{SetField, DropField, AddEntry, RemoveEntry, MoveEntry, RenameKey, RenameMacro, InlineMacro, IntroduceMacro, RegenerateKeys}
+use Rattle.bib_data.specs.declared.edit.Edit.TheVariants.{SetField, DropField, AddEntry, RemoveEntry, MoveEntry, RenameKey, RenameMacro, InlineMacro, IntroduceMacro, RegenerateKeys, SetType}
 use Rattle.bib_data.specs.declared.edit.NewEntry.{NewEntry}
 use Rattle.bib_data.specs.declared.request.Request.{Request}
 use Rattle.bib_data.specs.declared.request.Request.TheVariants as request
@@ -62,6 +62,11 @@ abbrev pub move_of : List Text → Option Edit
 move_of (key ∷ position ∷ []) = option_map (MoveEntry key) (number_of position)
 move_of _ = None
 
+-- `set-type KEY TYPE`
+abbrev pub set_type_of : List Text → Option Edit
+set_type_of (key ∷ kind_name ∷ []) = Some (SetType key kind_name)
+set_type_of _ = None
+
 -- `rename-key FROM TO`
 abbrev pub rename_key_of : List Text → Option Edit
 rename_key_of (from ∷ to ∷ []) = Some (RenameKey from to)
@@ -112,6 +117,7 @@ edit_of (verb ∷ words) =
     else if bytes_eq verb (codes "add") then add_of words
     else if bytes_eq verb (codes "remove") then remove_of words
     else if bytes_eq verb (codes "move") then move_of words
+    else if bytes_eq verb (codes "set-type") then set_type_of words
     else renaming_of verb words
 
 -- `group LABEL`

@@ -2,7 +2,7 @@
 
 ghost use Rattle.std.specs.Prelude.{◌≡◌, bytes_eq, map, option_map, IfOk};
 ghost use Rattle.bib_data.specs.declared.request.Request.TheVariants as request;
-ghost use Rattle.bib_script.specs.Script.{fields_of, new_entry, set_of, drop_of, add_of, remove_of, move_of, rename_key_of, rename_macro_of, inline_of, introduce_of, depth_of, regenerate_of, renaming_of, edit_of, group_of, end_of, request_of};
+ghost use Rattle.bib_script.specs.Script.{fields_of, new_entry, set_of, drop_of, add_of, remove_of, move_of, set_type_of, rename_key_of, rename_macro_of, inline_of, introduce_of, depth_of, regenerate_of, renaming_of, edit_of, group_of, end_of, request_of};
 
 use crate::fields::fields_of;
 use crate::numbers::number_of;
@@ -107,6 +107,19 @@ fn move_of(alloc: Global, words: &[&[u8]]) -> Result<Option<Edit>, AllocError>
     Ok(Some(Edit::MoveEntry {
         key: copied(alloc, key)?,
         place,
+    }))
+}
+
+/// `set-type KEY TYPE`
+fn set_type_of(alloc: Global, words: &[&[u8]]) -> Result<Option<Edit>, AllocError>
+    ensures { IfOk result (λ edit. edit ≡ set_type_of (map (λ w. w.now) words.now)) }
+{
+    let [key, kind_name] = words else {
+        return Ok(None);
+    };
+    Ok(Some(Edit::SetType {
+        key: copied(alloc, key)?,
+        kind_name: copied(alloc, kind_name)?,
     }))
 }
 
@@ -223,6 +236,8 @@ pub(crate) fn edit_of(alloc: Global, words: &[&[u8]]) -> Result<Option<Edit>, Al
         remove_of(alloc, words)
     } else if is(verb, b"move") {
         move_of(alloc, words)
+    } else if is(verb, b"set-type") {
+        set_type_of(alloc, words)
     } else {
         renaming_of(alloc, verb, words)
     }

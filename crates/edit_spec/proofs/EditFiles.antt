@@ -1,16 +1,18 @@
 -- The chunks of an edit have the file as their old text, and the file of the new database as their new text.
 use Rattle.edit_spec.proofs.Words.{◌≡◌, ℕ, zero, suc, Bool, true, false, List, ◌∷◌, ◌++◌, Option, Some, None, option_and_then, unwrap_or, refl, sym, ◌∙◌, ap, ap₂, subst, append_assoc, append-nil, take, drop, insert, map, find, slice_get, ⊎_elim, option_map_or, flat_map, cases_Bool, cond-true}
 use Rattle.edit_spec.proofs.Words.{cond-false, flat_map-append, Text, same, Value, Row, Entry, Tree, CommentTree, DefinitionTree, PreambleTree, EntryTree, value_bytes, row_bytes, tree_bytes, Item, Reading, item_bytes, bytes_of, row_start, EntryTexts, Record, entries_of, crossref, entry_named}
-use Rattle.edit_spec.proofs.Words.{target, Chunk, Kept, Replaced, applied, new_keys, holds, any_part, NewEntry, Edit, SetField, DropField, AddEntry, RemoveEntry, MoveEntry, RenameKey, RenameMacro, InlineMacro, IntroduceMacro, RegenerateKeys, AddMany, leaving, defines, is_entry, from_first}
+use Rattle.edit_spec.proofs.Words.{target, Chunk, Kept, Replaced, applied, new_keys, holds, any_part, NewEntry, Edit, SetField, DropField, AddEntry, RemoveEntry, MoveEntry, RenameKey, RenameMacro, InlineMacro, IntroduceMacro, RegenerateKeys, AddMany, SetType, leaving, defines, is_entry, from_first}
 use Rattle.edit_spec.proofs.Words.{with_first_tree, without_first, with_item, items_with, new_row, row_to, row_before, with_field, without_field, of_entry, item_of, in_line, in_braces, with_value, with_crossref, next_number, tree_with_keys, items_with_keys, key_for, name_renamed, use_renamed}
 use Rattle.edit_spec.proofs.Words.{use_inlined, uses_inlined, text_of_macro, definition_of, part_introduced, introduced, edited, token, entry_chunks, items_chunks, kept_items, kept_rows, pieces_of, option_cases}
 use Rattle.std.proofs.Common.{[], take-append-drop, scan}
 use Rattle.std.specs.List.{concat}
 use Rattle.bib_spec.specs.Pieces.{Fit}
-use Rattle.edit_spec.specs.Edits.{entry_with_rows}
-use Rattle.edit_spec.specs.EditChunks.{kept_item, body_and_rest, chunks_from_first, without_body, entry_body, entry_as, value_replaced, field_set, field_dropped, crossref_chunks, tree_key_chunks, item_key_chunks, groups_without, inserted, moved, appended, changed_items, chunks}
+use Rattle.bib_spec.specs.Bytes.{at_sign}
+use Rattle.bib_spec.specs.Tree.{open_byte, after_key_bytes, entry_bytes}
+use Rattle.edit_spec.specs.Edits.{entry_with_rows, entry_with_type}
+use Rattle.edit_spec.specs.EditChunks.{kept_item, body_and_rest, chunks_from_first, without_body, entry_body, entry_as, value_replaced, field_set, field_dropped, type_replaced, crossref_chunks, tree_key_chunks, item_key_chunks, groups_without, inserted, moved, appended, changed_items, chunks}
 use Rattle.edit_spec.specs.Laws.{chunks_are_files, pieces_lead_to_edited}
-use Rattle.edit_spec.proofs.TreeChunks.{read, old-read, new-read, read-append, token_old, token_new, row-parts, last-read, entry-read, items-old, items-new, rows-kept, items-kept}
+use Rattle.edit_spec.proofs.TreeChunks.{chunk_text, read, old-read, new-read, read-append, token_old, token_new, row-parts, last-read, entry-read, items-old, items-new, rows-kept, items-kept}
 use Rattle.bib_spec.proofs.Chunks.{chunks-fit, chunks-lead}
 
 abbrev items_bytes : List Item → Text
@@ -160,34 +162,67 @@ rest-read : (b : Bool) (body : List Chunk) (item : Item) (items : List Item) (by
 rest-read b body item items bytes e =
     read-append b body (Kept item.trail ∷ kept_items items) ∙ ap₂ (λ x y. x ++ (item.trail ++ y)) e (items-kept b items) ∙ sym (append_assoc bytes item.trail (items_bytes items))
 
--- an entry with other rows
-module _ (become : Entry → Text × List Row) (body : Entry → List Chunk)
-    (old : (e : Entry) → read false (body e) ≡ e.space_after_key ++ rows_bytes e.rows) (new : (e : Entry) → read true (body e) ≡ spaced_rows (become e))
+-- an entry that becomes another one
+module _ (entry_become : Entry → Entry) (entry_chunked : Entry → List Chunk)
+    (old : (e : Entry) → read false (entry_chunked e) ≡ entry_bytes e) (new : (e : Entry) → read true (entry_chunked e) ≡ entry_bytes (entry_become e))
   where
-    abbrev entry_chunked : Entry → List Chunk
-    entry_chunked e = entry_chunks (Kept e.key) (body e) e
-
-    abbrev entry_become : Entry → Entry
-    entry_become e = entry_with_rows (become e) e
-
     body_old : (tree : Tree) → read false (entry_body entry_chunked tree) ≡ tree_bytes tree
-    body_old (EntryTree e) = entry-read false (Kept e.key) (body e) e e.key e.space_after_key e.rows refl (old e)
+    body_old (EntryTree e) = old e
     body_old (CommentTree h) = append-nil (tree_bytes (CommentTree h))
     body_old (DefinitionTree d) = append-nil (tree_bytes (DefinitionTree d))
     body_old (PreambleTree p) = append-nil (tree_bytes (PreambleTree p))
 
     body_new : (tree : Tree) → read true (entry_body entry_chunked tree) ≡ tree_bytes (of_entry entry_become tree)
-    body_new (EntryTree e) = entry-read true (Kept e.key) (body e) e e.key (become e).0 (become e).1 refl (new e)
+    body_new (EntryTree e) = new e
     body_new (CommentTree h) = append-nil (tree_bytes (CommentTree h))
     body_new (DefinitionTree d) = append-nil (tree_bytes (DefinitionTree d))
     body_new (PreambleTree p) = append-nil (tree_bytes (PreambleTree p))
 
-    entry_old : (key : Text) (items : List Item) → read false (chunks_from_first (is_entry key) (entry_as entry_chunked) items) ≡ items_bytes items
-    entry_old key items = first_old (is_entry key) (entry_as entry_chunked) (λ item items. rest-read false (entry_body entry_chunked item.tree) item items (tree_bytes item.tree) (body_old item.tree)) items
+    became_old : (key : Text) (items : List Item) → read false (chunks_from_first (is_entry key) (entry_as entry_chunked) items) ≡ items_bytes items
+    became_old key items = first_old (is_entry key) (entry_as entry_chunked) (λ item items. rest-read false (entry_body entry_chunked item.tree) item items (tree_bytes item.tree) (body_old item.tree)) items
 
-    entry_new : (key : Text) (items : List Item) → read true (chunks_from_first (is_entry key) (entry_as entry_chunked) items) ≡ items_bytes (from_first (is_entry key) (with_first_tree (of_entry entry_become)) items)
-    entry_new key items = first_new (is_entry key) (entry_as entry_chunked) (with_first_tree (of_entry entry_become))
+    became_new : (key : Text) (items : List Item) → read true (chunks_from_first (is_entry key) (entry_as entry_chunked) items) ≡ items_bytes (from_first (is_entry key) (with_first_tree (of_entry entry_become)) items)
+    became_new key items = first_new (is_entry key) (entry_as entry_chunked) (with_first_tree (of_entry entry_become))
         (λ item items. rest-read true (entry_body entry_chunked item.tree) item items (tree_bytes (of_entry entry_become item.tree)) (body_new item.tree)) items
+
+-- an entry with other rows
+module _ (become : Entry → Text × List Row) (body : Entry → List Chunk)
+    (old : (e : Entry) → read false (body e) ≡ e.space_after_key ++ rows_bytes e.rows) (new : (e : Entry) → read true (body e) ≡ spaced_rows (become e))
+  where
+    abbrev rows_chunked : Entry → List Chunk
+    rows_chunked e = entry_chunks (Kept e.key) (body e) e
+
+    abbrev rows_become : Entry → Entry
+    rows_become e = entry_with_rows (become e) e
+
+    rows_old : (e : Entry) → read false (rows_chunked e) ≡ entry_bytes e
+    rows_old e = entry-read false (Kept e.key) (body e) e e.key e.space_after_key e.rows refl (old e)
+
+    rows_new : (e : Entry) → read true (rows_chunked e) ≡ entry_bytes (rows_become e)
+    rows_new e = entry-read true (Kept e.key) (body e) e e.key (become e).0 (become e).1 refl (new e)
+
+    entry_old : (key : Text) (items : List Item) → read false (chunks_from_first (is_entry key) (entry_as rows_chunked) items) ≡ items_bytes items
+    entry_old key items = became_old rows_become rows_chunked rows_old rows_new key items
+
+    entry_new : (key : Text) (items : List Item) → read true (chunks_from_first (is_entry key) (entry_as rows_chunked) items) ≡ items_bytes (from_first (is_entry key) (with_first_tree (of_entry rows_become)) items)
+    entry_new key items = became_new rows_become rows_chunked rows_old rows_new key items
+
+-- ---- types
+
+type_regroup : (a s t b o r k y : Text) → (a ++ s) ++ (t ++ ((b ++ (o ++ r)) ++ (k ++ y))) ≡ (((a ++ (s ++ t)) ++ b) ++ (o ++ r)) ++ k ++ y
+type_regroup a s t b o r k y = simp append_assoc
+
+module _ (kind_name : Text) where
+  type-read : (b : Bool) (e : Entry) (now : Text) → chunk_text b (Replaced e.opening.head.type_name kind_name) ≡ now → read b (type_replaced kind_name e) ≡ entry_bytes (entry_with_type now e)
+  type-read b e now is =
+      ap₂ (λ x y. (at_sign ∷ e.opening.head.space_before_type) ++ (x ++ ((e.opening.space_before_delimiter ++ open_byte e.opening.delimiter ∷ e.opening.space_after) ++ y))) is (append-nil (e.key ++ after_key_bytes e))
+      ∙ type_regroup (at_sign ∷ []) e.opening.head.space_before_type now e.opening.space_before_delimiter (open_byte e.opening.delimiter ∷ []) e.opening.space_after e.key (after_key_bytes e)
+
+  type_old : (e : Entry) → read false (type_replaced kind_name e) ≡ entry_bytes e
+  type_old e = type-read false e e.opening.head.type_name refl
+
+  type_new : (e : Entry) → read true (type_replaced kind_name e) ≡ entry_bytes (entry_with_type kind_name e)
+  type_new e = type-read true e kind_name refl
 
 -- ---- removals
 
@@ -431,6 +466,7 @@ module _ (key_base : Record → Text) (db : Reading) where
   items_old (RegenerateKeys depth) = keys_old (slice_get (new_keys key_base depth (entries_of db))) (entries_of db) 0 db.items
   items_old (AddMany news) =
       read-append false (kept_items db.items) (appended news) ∙ ap₂ ◌++◌ (items-kept false db.items) (appended_old news) ∙ append-nil (items_bytes db.items)
+  items_old (SetType key kind_name) = became_old (entry_with_type kind_name) (type_replaced kind_name) (type_old kind_name) (type_new kind_name) key db.items
 
   file_new : (e : Edit) → db.front ++ read true (changed_items key_base db e) ≡ bytes_of (edited key_base db e)
   file_new (SetField key name value) = ap (λ t. db.front ++ t)
@@ -458,6 +494,7 @@ module _ (key_base : Record → Text) (db : Reading) where
   file_new (RegenerateKeys depth) = ap (λ t. db.front ++ t) (keys_new (slice_get (new_keys key_base depth (entries_of db))) (entries_of db) 0 db.items)
   file_new (AddMany news) = ap (λ t. db.front ++ t)
       (read-append true (kept_items db.items) (appended news) ∙ ap₂ ◌++◌ (items-kept true db.items) (appended_new news) ∙ sym (items-append db.items (map item_of news)))
+  file_new (SetType key kind_name) = ap (λ t. db.front ++ t) (became_new (entry_with_type kind_name) (type_replaced kind_name) (type_old kind_name) (type_new kind_name) key db.items)
 
 pub chunks-are-files : chunks_are_files
 chunks-are-files key_base db e = (

@@ -30,6 +30,7 @@ pub mod WrittenRows
 pub mod EditedItems
 pub mod SetField
 pub mod DropField
+pub mod SetType
 pub mod AddedEntries
 pub mod MovedEntries
 pub mod RekeyedEntries

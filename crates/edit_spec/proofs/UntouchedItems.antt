@@ -3,13 +3,13 @@
 use Rattle.edit_spec.proofs.Words.{◌≡◌, ◌≢◌, ◌||◌, ◌&&◌, ◌==◌, ℕ, zero, suc, ◌+◌, ◌<◌, ◌≤◌, Bool, true, false, List, ◌∷◌, ◌++◌, Option, Some, None, is_some, unwrap_or, not, option_map, option_and_then, insert, find, map, slice_get, length, take, count_by, ⊎_elim, refl, sym, ◌∙◌, ap, ap₂, subst}
 use Rattle.edit_spec.proofs.Words.{arith, append-nil, add-zero, eq-eqb, zero-lt-suc, suc-le-suc, le_of_suc-le-suc, list_any, option_map_or, bytes_eq, and_parts, not-false, cases_Bool, cond-true, cond-false, or_parts, both_ways, none-some, same_Some, Text, same, Part, Braced, Quoted, Digits, Macro}
 use Rattle.edit_spec.proofs.Words.{Link, Value, Row, Entry, Tree, CommentTree, DefinitionTree, PreambleTree, EntryTree, Item, Reading, Macros, months, macros_after, gathered, EntryTexts, Record, entry_in, entries_of, keys_of, crossref, is_named, entry_named, target, uses, holds, any_part, SetField}
-use Rattle.edit_spec.proofs.Words.{DropField, AddEntry, RemoveEntry, MoveEntry, RenameKey, RenameMacro, InlineMacro, IntroduceMacro, RegenerateKeys, AddMany, NotFound, Ambiguous, BadPosition, IsAccepted, edited, leaving, item_with, items_with, defines, is_entry, from_first, with_first_tree}
+use Rattle.edit_spec.proofs.Words.{DropField, AddEntry, RemoveEntry, MoveEntry, RenameKey, RenameMacro, InlineMacro, IntroduceMacro, RegenerateKeys, AddMany, SetType, NotFound, Ambiguous, BadPosition, IsAccepted, edited, leaving, item_with, items_with, defines, is_entry, from_first, with_first_tree}
 use Rattle.edit_spec.proofs.Words.{without_first, of_entry, entry_with_field, entry_without_field, in_line, item_of, with_item, remove_entry, next_number, tree_with_keys, items_with_keys, in_braces, row_to, with_value, with_crossref, key_for, name_renamed, use_renamed, use_inlined, uses_inlined}
 use Rattle.edit_spec.proofs.Words.{text_of_macro, part_introduced, introduced, holders, new_keys, is_after, is_reached, number_with_one_more, entries_before, both_true, eq-true, count-no, option_cases, there_once}
 use Rattle.std.proofs.Common.{◌-◌, [], if◌then◌else◌, eqb-true, ne_eqb}
 use Rattle.std.proofs.lemmas.List.{nil_from_length}
 use Rattle.std.proofs.lemmas.Option.{slice_get-map}
-use Rattle.edit_spec.specs.Edits.{item_with_keys, last_position}
+use Rattle.edit_spec.specs.Edits.{item_with_keys, last_position, entry_with_type}
 use Rattle.edit_spec.specs.OtherLaws.{number_with_one_less, passes, number_of_first, is_first, is_any_entry, is_braced, is_in_braces, names_already, has_its_keys, is_or_refers_to, is_changed, gained, StandsAt, KeepsItems, untouched_items_stay, moved_entry_stays}
 use Rattle.edit_spec.proofs.RenameKey.{only}
 use Rattle.edit_spec.proofs.OneMore.{slice_get-insert, slice_get-insert_same, within}
@@ -547,3 +547,6 @@ untouched_items-stay key_base db (RegenerateKeys depth) accepted =
 untouched_items-stay key_base db (AddMany news) accepted =
     in_place (is_changed key_base db (AddMany news)) db (edited key_base db (AddMany news)) refl
     (λ n item at. stands (db.items ++ map item_of news) n false item item (slice_get-append db.items (map item_of news) n (within db.items n item at) ∙ at) refl (λ _. refl))
+untouched_items-stay key_base db (SetType key kind_name) accepted =
+    in_place (is_changed key_base db (SetType key kind_name)) db (edited key_base db (SetType key kind_name)) refl
+    (λ n item at. changed_at (is_entry key) (of_entry (entry_with_type kind_name)) db.items n item at)

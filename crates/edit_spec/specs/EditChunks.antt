@@ -2,16 +2,16 @@
 use Rattle.std.specs.Prelude.{ℕ, Bool, List, [], ◌∷◌, ◌++◌, Option, Some, None, option_map, option_and_then, take, drop, insert, if◌then◌else◌, find, map, scan, slice_get}
 use Rattle.std.specs.List.{flat_map}
 use Rattle.std.specs.Option.{option_map_or}
-use Rattle.bib_spec.specs.Bytes.{hash, comma, equals_sign}
+use Rattle.bib_spec.specs.Bytes.{hash, comma, equals_sign, at_sign}
 use Rattle.bib_spec.specs.Text.{Text, same}
-use Rattle.bib_spec.specs.Tree.{Part, Link, Value, Assignment, Row, Entry, Tree, CommentTree, DefinitionTree, PreambleTree, EntryTree, part_bytes, value_bytes, row_bytes, close_byte, head_bytes, opening_bytes, last_comma_bytes, tree_bytes}
+use Rattle.bib_spec.specs.Tree.{Part, Link, Value, Assignment, Row, Entry, Tree, CommentTree, DefinitionTree, PreambleTree, EntryTree, part_bytes, value_bytes, row_bytes, open_byte, close_byte, head_bytes, opening_bytes, after_key_bytes, last_comma_bytes, tree_bytes}
 use Rattle.bib_spec.specs.Reading.{Item, Reading, item_bytes}
 use Rattle.bib_spec.specs.Texts.{row_start}
 use Rattle.bib_spec.specs.Records.{EntryTexts, Record, entries_of, crossref, entry_named, target}
 use Rattle.bib_spec.specs.Pieces.{Piece, Chunk, Kept, Replaced, pieces_of_chunks}
 use Rattle.bib_spec.specs.MadeKeys.{new_keys}
 use Rattle.part_spec.specs.Parts.{holds, any_part}
-use Rattle.edit_spec.specs.Edits.{NewEntry, Edit, SetField, DropField, AddEntry, RemoveEntry, MoveEntry, RenameKey, RenameMacro, InlineMacro, IntroduceMacro, RegenerateKeys, AddMany, leaving, defines, is_entry, new_row, item_of, in_line, in_braces, next_number, key_for, name_renamed, use_renamed, use_inlined, text_of_macro, definition_of, part_introduced}
+use Rattle.edit_spec.specs.Edits.{NewEntry, Edit, SetField, DropField, AddEntry, RemoveEntry, MoveEntry, RenameKey, RenameMacro, InlineMacro, IntroduceMacro, RegenerateKeys, AddMany, SetType, leaving, defines, is_entry, new_row, item_of, in_line, in_braces, next_number, key_for, name_renamed, use_renamed, use_inlined, text_of_macro, definition_of, part_introduced}
 
 -- ---- trees
 
@@ -129,6 +129,16 @@ field_dropped name before (row ∷ rows) =
     then Kept before ∷ Replaced (row_start row ++ value_bytes row.assignment.value) [] ∷ Kept row.assignment.space_after ∷ kept_rows rows
     else Kept before ∷ Kept (row_start row) ∷ Kept (value_bytes row.assignment.value) ∷ field_dropped name row.assignment.space_after rows
 
+-- ---- types
+
+-- an entry in chunks, where its type is replaced
+abbrev pub type_replaced : Text → Entry → List Chunk
+type_replaced kind_name e =
+    Kept (at_sign ∷ e.opening.head.space_before_type)
+    ∷ Replaced e.opening.head.type_name kind_name
+    ∷ Kept (e.opening.space_before_delimiter ++ open_byte e.opening.delimiter ∷ e.opening.space_after)
+    ∷ Kept (e.key ++ after_key_bytes e) ∷ []
+
 -- ---- keys
 
 -- the rows in chunks, where the first crossref names the new key of its target, if the target gets a new key
@@ -200,6 +210,7 @@ changed_items key_base db (IntroduceMacro name text) =
     (λ item items. inserted (in_line (DefinitionTree (definition_of name text))) ++ items_chunks leaving (part_introduced name text) (item ∷ items)) db.items
 changed_items key_base db (RegenerateKeys depth) = key_chunks (slice_get (new_keys key_base depth (entries_of db))) db
 changed_items key_base db (AddMany news) = kept_items db.items ++ appended news
+changed_items key_base db (SetType key kind_name) = chunks_from_first (is_entry key) (entry_as (type_replaced kind_name)) db.items
 
 -- the file in chunks, as the edit keeps and replaces them
 abbrev pub chunks : (Record → Text) → Reading → Edit → List Chunk

@@ -5,7 +5,7 @@ use Rattle.std.specs.Option.{option_map_or}
 use Rattle.bib_spec.specs.Bytes.{name_limit, file_limit, close_paren}
 use Rattle.bib_spec.specs.Text.{Text, folded, same, is_name, is_new_key}
 use Rattle.bib_spec.specs.Clean.{IsClean, IsCleanTrail}
-use Rattle.bib_spec.specs.Tree.{Part, Braced, Quoted, Digits, Macro, Link, Value, Assignment, Row, Brace, Definition, Entry, Tree, CommentTree, DefinitionTree, PreambleTree, EntryTree, is_comment, is_type, after_key_bytes, value_bytes, IsValue}
+use Rattle.bib_spec.specs.Tree.{Part, Braced, Quoted, Digits, Macro, Link, Value, Assignment, Row, Brace, Head, Definition, Entry, Tree, CommentTree, DefinitionTree, PreambleTree, EntryTree, is_comment, is_type, after_key_bytes, value_bytes, IsValue}
 use Rattle.bib_spec.specs.Reading.{Item, Reading, bytes_of, IsValueWithin}
 use Rattle.bib_spec.specs.Texts.{months, parts_of, values_of, seen, too_long_at}
 use Rattle.bib_spec.specs.Records.{EntryTexts, Record, entries_of, keys_of, crossref, has_name, is_named, entry_named, target, parent, dangling_texts}
@@ -44,6 +44,8 @@ pub data Edit : Type 0 where
   RegenerateKeys : ℕ → Edit
   -- the entries are added after the last item, in this order
   AddMany : List NewEntry → Edit
+  -- the entry gets this type: key, type
+  SetType : Text → Text → Edit
 
 -- The value has these bytes, and it is one of the grammar if any value with these bytes is. A caller gives bytes, and
 -- whether they are a value is decided together with all other reasons to refuse.
@@ -200,6 +202,18 @@ set_field key name value db = with_entry key (entry_with_field name value) db
 -- this entry has no such field
 abbrev pub drop_field : Text → Text → Reading → Reading
 drop_field key name db = with_entry key (entry_without_field name) db
+
+-- ---- types
+
+-- an entry with another type
+abbrev pub entry_with_type : Text → Entry → Entry
+entry_with_type kind_name e =
+    let head : Head = record e.opening.head { type_name = kind_name } in
+    record e { opening = record e.opening { head = head } }
+
+-- the entry that the key names has this type
+abbrev pub set_type : Text → Text → Reading → Reading
+set_type key kind_name db = with_entry key (entry_with_type kind_name) db
 
 -- ---- entries
 
@@ -390,6 +404,7 @@ edited key_base db (InlineMacro name) = inline_macro name db
 edited key_base db (IntroduceMacro name text) = introduce_macro name text db
 edited key_base db (RegenerateKeys depth) = regenerate_keys key_base depth db
 edited key_base db (AddMany news) = add_many news db
+edited key_base db (SetType key kind_name) = set_type key kind_name db
 
 -- ---- what an edit is given
 
@@ -423,6 +438,7 @@ given_names other = []
 abbrev pub given_types : Edit → List Text
 given_types (AddEntry position new) = new.kind_name ∷ []
 given_types (AddMany news) = map (λ new. new.kind_name) news
+given_types (SetType key kind_name) = kind_name ∷ []
 given_types other = []
 
 -- the values in the edit; a text that gets a name is put in braces
@@ -528,6 +544,7 @@ IsMissing db (RenameKey from to) = holders from db ≡ 0
 IsMissing db (RenameMacro from to) = definitions from db ≡ 0
 IsMissing db (InlineMacro name) = definitions name db ≡ 0
 IsMissing db (IntroduceMacro name text) = list_any (λ item. any_part (holds text) item.tree) db.items ≡ false
+IsMissing db (SetType key kind_name) = holders key db ≡ 0
 IsMissing db other = ⊥
 
 -- what the edit addresses is there twice, or a new entry has a field twice
@@ -541,6 +558,7 @@ IsAmbiguous db (RenameKey from to) = 1 < holders from db
 IsAmbiguous db (RenameMacro from to) = 1 < definitions from db
 IsAmbiguous db (InlineMacro name) = 1 < definitions name db
 IsAmbiguous db (AddMany news) = list_any (λ new. has_same (field_names new)) news ≡ true
+IsAmbiguous db (SetType key kind_name) = 1 < holders key db
 IsAmbiguous db other = ⊥
 
 -- The new key is the key of another entry or of another new entry, or the text of a dangling crossref. That last is a reason

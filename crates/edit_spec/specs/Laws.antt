@@ -9,7 +9,7 @@ use Rattle.bib_spec.specs.Records.{EntryTexts, Record, entries_of, preambles_of,
 use Rattle.bib_spec.specs.Pieces.{Fit, applied, old_of, new_of}
 use Rattle.bib_spec.specs.MadeKeys.{new_keys, IsKeyBase}
 use Rattle.part_spec.specs.Parts.{holds, any_part}
-use Rattle.edit_spec.specs.Edits.{Edit, RenameKey, RenameMacro, InlineMacro, IntroduceMacro, RegenerateKeys, defines, key_for, edited, IsAccepted}
+use Rattle.edit_spec.specs.Edits.{Edit, RenameKey, RenameMacro, InlineMacro, IntroduceMacro, RegenerateKeys, SetType, defines, key_for, edited, IsAccepted}
 use Rattle.edit_spec.specs.EditChunks.{chunks, pieces_of}
 
 -- ---- macros
@@ -112,6 +112,30 @@ abbrev pub regenerating_again_changes_nothing : Type 0
 regenerating_again_changes_nothing = (key_base : Record → Text) → IsKeyBase key_base → (db : Reading) (depth : ℕ) → IsAccepted key_base db (RegenerateKeys depth) →
     let new : Reading = edited key_base db (RegenerateKeys depth) in
     IsAccepted key_base new (RegenerateKeys depth) × (edited key_base new (RegenerateKeys depth) ≡ new)
+
+-- ---- types
+
+-- a record with its type replaced, if there is a new one; a record has its type in lower case
+abbrev pub record_with_type : Option Text → Record → Record
+record_with_type None r = r
+record_with_type (Some kind_name) r = record r { kind_name = folded kind_name }
+
+-- the new types, if only one entry gets a new type
+abbrev pub type_for : Option ℕ → Text → ℕ → Option Text
+type_for named kind_name n = key_for named kind_name n
+
+-- Each entry's record, at every depth, is unchanged except for its new type; each parent and each preamble is unchanged.
+pub record KeepsAllButTypes (new_type : ℕ → Option Text) (old new : Reading) : Type 0 where
+  pub count : length (entries_of new) ≡ length (entries_of old)
+  pub records : (depth n : ℕ) → expanded depth (entries_of new) n ≡ option_map (record_with_type (new_type n)) (expanded depth (entries_of old) n)
+  pub parents : (n : ℕ) → parent (entries_of new) n ≡ parent (entries_of old) n
+  pub preambles : preambles_of new ≡ preambles_of old
+
+-- Giving an entry another type keeps all that the database says, except for that type.
+abbrev pub set_type_keeps : Type 0
+set_type_keeps = (key_base : Record → Text) (db : Reading) (key kind_name : Text) → IsAccepted key_base db (SetType key kind_name) →
+    let new : Reading = edited key_base db (SetType key kind_name) in
+    KeepsAllButTypes (type_for (entry_named (entries_of db) key) kind_name) db new × KeepsMacros db new × KeepsCitations db new
 
 -- ---- renaming macros
 

@@ -8,7 +8,7 @@ use Rattle.bib_spec.specs.Reading.{Item, Reading}
 use Rattle.bib_spec.specs.MadeKeys.{new_keys}
 use Rattle.bib_spec.specs.Records.{EntryTexts, Record, entries_of, preambles_of, crossref, entry_named, target, parent, dangling_texts, expanded}
 use Rattle.part_spec.specs.Parts.{uses, holds, any_part}
-use Rattle.edit_spec.specs.Edits.{NewEntry, Edit, SetField, DropField, AddEntry, RemoveEntry, MoveEntry, RenameKey, RenameMacro, InlineMacro, IntroduceMacro, RegenerateKeys, AddMany, given_keys, defines, is_entry, in_line, edited, IsAccepted}
+use Rattle.edit_spec.specs.Edits.{NewEntry, Edit, SetField, DropField, AddEntry, RemoveEntry, MoveEntry, RenameKey, RenameMacro, InlineMacro, IntroduceMacro, RegenerateKeys, AddMany, SetType, given_keys, defines, is_entry, in_line, edited, IsAccepted}
 use Rattle.edit_spec.specs.Laws.{is_after, is_reached}
 
 -- ---- numbers
@@ -132,6 +132,7 @@ is_changed key_base db (InlineMacro name) n = is_after name db.items n && passes
 is_changed key_base db (IntroduceMacro name text) n = passes (any_part (holds text)) db.items n
 is_changed key_base db (RegenerateKeys depth) n =
     passes (λ tree. not (has_its_keys (slice_get (new_keys key_base depth (entries_of db))) (entries_of db) (entries_before n db) tree)) db.items n
+is_changed key_base db (SetType key kind_name) n = is_first (is_entry key) db.items n
 is_changed key_base db other n = false
 
 -- the number of item n afterwards, if it is not taken away

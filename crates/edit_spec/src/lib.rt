@@ -7,6 +7,7 @@ mod examples;
 mod macros;
 mod other_entries;
 mod renaming;
+mod types;
 mod untouched_items;
 
 pub use edits::{an_accepted_edit_makes_a_file_that_opens, chunks_of_an_edit_are_the_files};
@@ -29,4 +30,5 @@ pub use renaming::{
     regenerating_keys_keeps_the_rest, renaming_a_key_keeps_the_rest,
     renaming_a_macro_keeps_the_rest,
 };
+pub use types::a_type_is_set_and_all_else_kept;
 pub use untouched_items::untouched_items_keep_their_bytes;

@@ -27,6 +27,12 @@ const EDITS: &[Planned] = &[
         pieces: &[(14, b"", b",\n  y = {2}")],
     },
     Planned {
+        name: "a type gives way alone, and keeps the white space before it",
+        file: b"x@ Misc {a}",
+        turn: Turn::Script(b"set-type\ta\tBook"),
+        pieces: &[(3, b"Misc", b"Book")],
+    },
+    Planned {
         name: "a move is two pieces",
         file: b"@misc{a}\n@misc{b}\n",
         turn: Turn::Script(b"move\ta\t1"),

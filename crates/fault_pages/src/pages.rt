@@ -161,7 +161,7 @@ pub(crate) fn faults_of_edits(word: &[u8]) -> Option<Page>
         return Some(Page {
             number: b"32",
             name: b"BadName",
-            text: b"The name of a field or macro is not valid, or the type of a new entry is not valid. `string`, `preamble` and `comment` are\nnot types of entries. `FORMAT-BIB.md` says what a name is.\n\n  $ printf '%s\\t%s\\t%s\\t%s\\n' set a 'x=y' 1 | bibkeep edit f.bib\n  applied 0\n  bibkeep: line 1: 32 BadName\n\nWrite a name without white space and `=`. Look for words in the wrong order.\n",
+            text: b"The name of a field or macro is not valid, or the type that an entry would have is not. `string`, `preamble` and `comment`\nare not types of entries. `FORMAT-BIB.md` says what a name is.\n\n  $ printf '%s\\t%s\\t%s\\t%s\\n' set a 'x=y' 1 | bibkeep edit f.bib\n  applied 0\n  bibkeep: line 1: 32 BadName\n\nWrite a name without white space and `=`. Look for words in the wrong order.\n",
         });
     }
     if is_asked(word, b"33", b"BadValue") {
