@@ -13,9 +13,9 @@ use Rattle.bib_answers.specs.Entry.{place_of, place_line, ended, item_text, stan
 pub found_next : (entries : List EntryTexts) (keys : List Text) (i : ℕ) (key : Text) → i < length keys → key ≡ get_or keys i key
     → filter_map (entry_named entries) (take i keys) ++ cons_option (entry_named entries key) [] ≡ filter_map (entry_named entries) (take (i + 1) keys)
 found_next entries keys i key within is = sym (
-  ap (filter_map (entry_named entries)) (take_more keys i key within)
-  ∙ filter_map-append (entry_named entries) (take i keys) (get_or keys i key ∷ [])
-  ∙ ap (λ (k : Text). filter_map (entry_named entries) (take i keys) ++ cons_option (entry_named entries k) []) (sym is))
+    ap (filter_map (entry_named entries)) (take_more keys i key within)
+    ∙ filter_map-append (entry_named entries) (take i keys) (get_or keys i key ∷ [])
+    ∙ ap (λ (k : Text). filter_map (entry_named entries) (take i keys) ++ cons_option (entry_named entries k) []) (sym is))
 
 -- ---- how each stands in the file
 
@@ -59,10 +59,10 @@ place_within r n places are within =
 pub places_more : (r : Reading) (n m : ℕ) (at : Position) → n < length (entries_of r) → slice_get (entry_numbers r.items) n ≡ Some m → at ≡ place_of r m
     → map (place_of r) (take n (entry_numbers r.items)) ++ at ∷ [] ≡ map (place_of r) (take (n + 1) (entry_numbers r.items))
 places_more r n m at within numbered is = sym (
-  ap (map (place_of r)) (take_more (entry_numbers r.items) n 0 (number_of_entry r n within))
-  ∙ map-append (place_of r) (take n (entry_numbers r.items)) (get_or (entry_numbers r.items) n 0 ∷ [])
-  ∙ ap (λ (k : ℕ). map (place_of r) (take n (entry_numbers r.items)) ++ place_of r k ∷ []) (get_or_from_slice_get (entry_numbers r.items) n m 0 numbered)
-  ∙ ap (λ (p : Position). map (place_of r) (take n (entry_numbers r.items)) ++ p ∷ []) (sym is))
+    ap (map (place_of r)) (take_more (entry_numbers r.items) n 0 (number_of_entry r n within))
+    ∙ map-append (place_of r) (take n (entry_numbers r.items)) (get_or (entry_numbers r.items) n 0 ∷ [])
+    ∙ ap (λ (k : ℕ). map (place_of r) (take n (entry_numbers r.items)) ++ place_of r k ∷ []) (get_or_from_slice_get (entry_numbers r.items) n m 0 numbered)
+    ∙ ap (λ (p : Position). map (place_of r) (take n (entry_numbers r.items)) ++ p ∷ []) (sym is))
 
 pub places_all : (r : Reading) (n : ℕ) → length (entries_of r) ≤ n → map (place_of r) (take n (entry_numbers r.items)) ≡ map (place_of r) (entry_numbers r.items)
 places_all r n end = ap (map (place_of r)) (take_all n (entry_numbers r.items) (omega (arith, end, length-entry_numbers r)))

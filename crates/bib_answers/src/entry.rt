@@ -30,7 +30,12 @@ pub fn answer_entry(
     answer_file(alloc, file, |db| entries(alloc, db, keys, at))
 }
 
-fn entries(alloc: Global, db: &Database<Paged>, keys: &[Text], at: bool) -> Result<Answer, AllocError>
+fn entries(
+    alloc: Global,
+    db: &Database<Paged>,
+    keys: &[Text],
+    at: bool,
+) -> Result<Answer, AllocError>
     ensures { IfOk result (λ answer. OfReading db.now (λ r. answer ≡ entry_answer at keys.now r)) }
 {
     match all_named(alloc, db, keys)? {

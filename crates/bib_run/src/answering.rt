@@ -15,8 +15,8 @@ use crate::commands::ris::answer_ris;
 use crate::commands::turning::{answer_redo, answer_undo};
 use crate::reading::Sources;
 use bib_answers::{
-    Answer, Outcome, answer_cat, answer_check, answer_cite, answer_entry, answer_json, answer_labels,
-    answer_lint, answer_names, answer_newkeys, answer_show, outcome_of,
+    Answer, Outcome, answer_cat, answer_check, answer_cite, answer_entry, answer_json,
+    answer_labels, answer_lint, answer_names, answer_newkeys, answer_show, outcome_of,
 };
 use bib_scan::Text;
 use bib_words::{Command, Question, Verb};
