@@ -4,7 +4,7 @@
 # run a command that stands in it, and what is offered is quoted for the shell.
 
 _bibkeep() {
-    local commands='cat check lint show cite labels json names newkeys edit undo redo log forget ris import explain help'
+    local commands='cat check lint show entry cite labels json names newkeys edit undo redo log forget ris import explain help'
     local verbs='set drop add remove move set-type rename-key rename-macro inline introduce regenerate'
     local IFS=$' \t\n' words=() current='' begun='' quote='' tilde='' is_target='' own=() has_ended='' options='' i
 
@@ -35,10 +35,12 @@ _bibkeep() {
     fi
     if [[ $current == -* && -z $has_ended ]]; then
         case $command in
+            entry) options='--at --hints --help' ;;
             cite) options='--min-crossrefs --hints --help' ;;
             show | labels | json | names | newkeys) options='--depth --hints --help' ;;
             ris) options='--depth --dropped --hints --help' ;;
-            edit | import) options='--print --new-journal --hints --help' ;;
+            edit) options='--print --new-journal --no-journal --all-or-nothing --hints --help' ;;
+            import) options='--print --new-journal --no-journal --hints --help' ;;
             undo | redo) options='--steps --print --hints --help' ;;
             *) options='--hints --help' ;;
         esac
@@ -51,7 +53,7 @@ _bibkeep() {
         explain:1) _bibkeep_offer < <(_bibkeep_faults) ;;
         explain:*) ;;
         *:1) _bibkeep_offer_files ;;
-        show:2 | names:2 | cite:* | labels:* | json:* | ris:*) _bibkeep_offer < <(_bibkeep_keys "$file") ;;
+        show:2 | names:2 | entry:* | cite:* | labels:* | json:* | ris:*) _bibkeep_offer < <(_bibkeep_keys "$file") ;;
         edit:2) _bibkeep_offer <<<"${verbs// /$'\n'}" ;;
         edit:3)
             case $verb in

@@ -195,6 +195,9 @@ READING = [
     ),
     Case(("show", FILE, "c", "--depth", "8"), RING, output=b"@misc c\nx = 1\ny = 3\ncrossref = b\n"),
     Case(("show", FILE, "zz"), PARENTS, status=1, message=b"bibkeep: 11 NoSuchEntry\n"),
+    Case(("entry", FILE, "b", "A"), b"x @misc(a)y@book{B,}\n", output=b"@book{B,}\n@misc(a)\n"),
+    Case(("entry", FILE, "--at", "*"), b"x @misc(a)\n y@book{B,}\n", output=b"0\t1\t3\n@misc(a)\n1\t2\t3\n@book{B,}\n"),
+    Case(("entry", FILE, "zz"), PARENTS, status=1, message=b"bibkeep: 11 NoSuchEntry\n"),
     Case(("cite", FILE, "c1", "zz", "c2", "C1"), PARENTS, output=b"c1\tp\nc2\tp\np\n? zz\n"),
     Case(("cite", FILE, "--min-crossrefs", "3", "c1", "zz", "c2", "C1"), PARENTS, output=b"c1\nc2\n? zz\n"),
     Case(("labels", FILE, "Lam86", "knu84"), BOOKS, output=b"Knu84\tLam86\nLam86\tKnu84\n"),
@@ -341,6 +344,28 @@ PRINTING = [
     Case(("edit", FILE, "--print", "remove", "k"), b"abc", status=1, message=b"bibkeep: 35 NotFound\n"),
 ]
 
+# Without a journal, and whole or not at all.
+JOURNALLESS = [
+    Case(("edit", FILE, "--no-journal", "set", "a", "y", "{2}"), FIELD, output=b"applied 1\n", new_file=b"@misc{a, t = 1,\n  y = {2},}"),
+    Case(
+        ("import", FILE, "--no-journal"),
+        b"abd",
+        input=KING_RIS,
+        reads=(FILE, INPUT),
+        output=b"added 1 skipped 0\n",
+        new_file=b"abd" + KING_ADDED,
+    ),
+    Case(
+        ("edit", FILE, "--all-or-nothing"),
+        FIELD,
+        input=b"set\ta\ty\t{2}\ndrop\ta\tq\n",
+        reads=(FILE, INPUT),
+        status=1,
+        output=b"applied 0\n",
+        message=b"bibkeep: line 2: 35 NotFound\n",
+    ),
+]
+
 # A journal that does not fit is replaced by the option alone, and one that fits is kept.
 BEGINNING = [
     worded(b"abd", ("add", "0", "misc", "k"), [(3, b"", b"@misc{k}\n")], b"abd@misc{k}\n", REMOVED, options=("--new-journal",)),
@@ -426,4 +451,4 @@ TURNING = [
     Case(("forget", FILE), b"abc", b"no journal", new_journal=journal(b"abc")),
 ]
 
-CASES = READING + EDITING + WORDING + PRINTING + BEGINNING + IMPORTING + TURNING
+CASES = READING + EDITING + WORDING + PRINTING + JOURNALLESS + BEGINNING + IMPORTING + TURNING

@@ -1,4 +1,4 @@
-# One edit by its words, `--print` and `--new-journal`.
+# One edit by its words, `--print`, `--new-journal`, `--no-journal` and `--all-or-nothing`.
 # shellcheck shell=sh
 
 has_no_journal() { expect 'a journal was left' test ! -e edited.bib.bibkeep; }
@@ -131,3 +131,58 @@ given_journal '@misc{' bib
 when edit edited.bib --new-journal remove m; ends_with 1; writes_nothing; says 'bibkeep: 1 Unended at 6'; keeps bib
 when undo edited.bib --new-journal; ends_with 2; writes_nothing; complains_of "'--new-journal'"
 rm -f edited.bib.bibkeep
+
+# ---- `--no-journal`
+
+# No journal is written, and undo finds none.
+given_edit '@misc{a, t = 1}\n' ''
+when edit edited.bib --no-journal set a t 2; ends_with 0; prints 'applied 1\n'; says_nothing; leaves '@misc{a, t = 2}\n'; has_no_journal
+when undo edited.bib; ends_with 1; prints 'undone 0\n'; says 'bibkeep: 51 NothingToUndo'; leaves '@misc{a, t = 2}\n'
+given_edit '@misc{a, t = 1}\n' 'set\ta\tt\t2\ndrop\ta\tq\n'
+input=script
+when edit edited.bib --no-journal; ends_with 1; prints 'applied 1\n'; says 'bibkeep: line 2: 35 NotFound'; leaves '@misc{a, t = 2}\n'; has_no_journal
+given_edit '@misc{a}\n' 'TY  - BOOK\nID  - k\nER  - \n'
+input=script
+when import edited.bib --no-journal; ends_with 0; prints 'added 1 skipped 0\n'; says_nothing; leaves '@misc{a}\n@book{k}\n'; has_no_journal
+
+# None is read, whatever is there, and it stays; the next command that reads it finds that it does not fit.
+for journal in "$removed" "$removed_before" bib; do
+    given_journal abd "$journal"
+    when edit edited.bib --no-journal add 0 misc k; ends_with 0; prints 'applied 1\n'; says_nothing; leaves 'abd@misc{k}\n'; keeps "$journal"
+    when edit edited.bib --no-journal --new-journal remove k; ends_with 0; prints 'applied 1\n'; says_nothing; leaves 'abd\n'; keeps "$journal"
+done
+given_journal abc "$removed"
+when edit edited.bib --no-journal add 0 misc m; ends_with 0; leaves 'abc@misc{m}\n'; keeps "$removed"
+when undo edited.bib; ends_with 1; writes_nothing; says 'bibkeep: 54 JournalMismatch'
+when edit edited.bib --no-journal --print remove m; ends_with 0; prints 'abc\n'; says_nothing; leaves 'abc@misc{m}\n'; keeps "$removed"
+rm -f edited.bib.bibkeep
+mkdir edited.bib.bibkeep
+when edit edited.bib --no-journal remove m; ends_with 0; prints 'applied 1\n'; says_nothing; leaves 'abc\n'
+rmdir edited.bib.bibkeep
+when undo edited.bib --no-journal; ends_with 2; writes_nothing; complains_of "'--no-journal'"
+when check edited.bib --no-journal; ends_with 2; writes_nothing; complains_of "'--no-journal'"
+
+# ---- `--all-or-nothing`
+
+# A script is stored whole or not at all.
+given_edit '@misc{a, t = 1}\n' 'set\ta\tt\t2\ndrop\ta\tq\nset\ta\tt\t3\n'
+input=script
+when edit edited.bib --all-or-nothing; ends_with 1; prints 'applied 0\n'; says 'bibkeep: line 2: 35 NotFound'; leaves '@misc{a, t = 1}\n'; has_no_journal
+input=script
+when edit edited.bib --all-or-nothing --print; ends_with 1; writes_nothing; says 'bibkeep: line 2: 35 NotFound'; leaves '@misc{a, t = 1}\n'; has_no_journal
+given_edit '@misc{a, t = 1}\n' 'set\ta\tt\t2\ngroup\tg\nset\ta\tu\t2\nno\n'
+input=script
+when edit edited.bib --all-or-nothing; ends_with 1; prints 'applied 0\n'; says 'bibkeep: line 4: 71 BadScript'; leaves '@misc{a, t = 1}\n'; has_no_journal
+given_edit '@misc{a, t = 1}\n' 'set\ta\tt\t2\nset\ta\tt\t3\n'
+input=script
+when edit edited.bib --all-or-nothing; ends_with 0; prints 'applied 2\n'; says_nothing; leaves '@misc{a, t = 3}\n'
+when undo edited.bib --steps 2; ends_with 0; prints 'undone 2\n'; leaves '@misc{a, t = 1}\n'
+# what was to be redone still can be
+given script 'set\ta\tt\t2\ndrop\ta\tq\n'
+input=script
+when edit edited.bib --all-or-nothing; ends_with 1; prints 'applied 0\n'; says 'bibkeep: line 2: 35 NotFound'
+when redo edited.bib --steps 2; ends_with 0; prints 'redone 2\n'; leaves '@misc{a, t = 3}\n'
+when edit edited.bib --all-or-nothing drop a q; ends_with 1; prints 'applied 0\n'; says 'bibkeep: 35 NotFound'; leaves '@misc{a, t = 3}\n'
+given_edit '@misc{' ''
+when edit edited.bib --all-or-nothing remove m; ends_with 1; writes_nothing; says 'bibkeep: 1 Unended at 6'
+when import edited.bib --all-or-nothing; ends_with 2; writes_nothing; complains_of "'--all-or-nothing'"

@@ -14,7 +14,7 @@ range_within : (count a n : ℕ) → a + n < suc count → Within count (range_w
 range_within count a zero le = All-nil (λ m. m < count)
 range_within count a (suc n) le = All-cons (λ m. m < count) a (range_with_len (a + 1) n) (omega (arith, le)) (range_within count (a + 1) n (omega (arith, le)))
 
-numbers_within : (entries : List EntryTexts) → Within (length entries) (numbers_of entries)
+pub numbers_within : (entries : List EntryTexts) → Within (length entries) (numbers_of entries)
 numbers_within entries = range_within (length entries) 0 (length entries) (omega arith)
 
 once_within : (count : ℕ) (ns : List ℕ) → Within count ns → Within count (once ns)
@@ -23,7 +23,7 @@ once_within count (n ∷ ns) all =
     All-cons (λ m. m < count) n (filter (λ m. not (m == n)) (once ns)) (All-head (λ m. m < count) n ns all)
     (All-filter (λ m. not (m == n)) (λ m. m < count) (once ns) (once_within count ns (All-tail (λ m. m < count) n ns all)))
 
-found_within : (entries : List EntryTexts) (keys : List Text) → Within (length entries) (filter_map (entry_named entries) keys)
+pub found_within : (entries : List EntryTexts) (keys : List Text) → Within (length entries) (filter_map (entry_named entries) keys)
 found_within entries [] = All-nil (λ n. n < length entries)
 found_within entries (key ∷ keys) = more (entry_named entries key) refl (found_within entries keys)
   where

@@ -18,4 +18,5 @@ pub mod LabelLines
 pub mod NewKeyLines
 pub mod NameLines
 pub mod JsonLines
+pub mod StandingEntries
 pub mod LineLists

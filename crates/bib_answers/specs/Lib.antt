@@ -21,3 +21,4 @@ pub mod Lint
 pub mod FindingLines
 pub mod LintedThrough
 pub mod Json
+pub mod Entry

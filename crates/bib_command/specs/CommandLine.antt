@@ -68,6 +68,10 @@ show_line = with_rule (with_rule (over_file (codes "show")) (needed (codes "KEY"
 abbrev pub cite_line : App
 cite_line = with_rule (with_rule (over_file (codes "cite")) keys) (count (codes "min-crossrefs") (codes "2"))
 
+-- `entry F [--at] KEY..`
+abbrev pub entry_line : App
+entry_line = with_rule (with_rule (over_file (codes "entry")) keys) (switch (codes "at"))
+
 -- `labels F [--depth D] KEY..`; the same for `json`
 abbrev pub keys_line : Text → App
 keys_line name = with_rule (with_rule (over_file name) keys) levels
@@ -80,9 +84,17 @@ names_line = with_rule (with_rule (with_rule (over_file (codes "names")) (needed
 abbrev pub newkeys_line : App
 newkeys_line = with_rule (over_file (codes "newkeys")) levels
 
--- `edit F [--print] [--new-journal] [WORD..]`
+-- the command with the options of one that adds a change to a journal: `[--new-journal] [--no-journal]`
+abbrev pub adding : App → App
+adding s = with_rule (with_rule s (switch (codes "new-journal"))) (switch (codes "no-journal"))
+
+-- `edit F [--print] [WORD..]`
+abbrev pub edit_or_print_line : App
+edit_or_print_line = with_rule (with_rule (over_file (codes "edit")) edit_words) (switch (codes "print"))
+
+-- `edit F [--print] [--new-journal] [--no-journal] [--all-or-nothing] [WORD..]`
 abbrev pub edit_line : App
-edit_line = with_rule (with_rule (with_rule (over_file (codes "edit")) edit_words) (switch (codes "print"))) (switch (codes "new-journal"))
+edit_line = with_rule (adding edit_or_print_line) (switch (codes "all-or-nothing"))
 
 -- `undo F [--steps N] [--print]`; the same for `redo`
 abbrev pub steps_line : Text → App
@@ -92,9 +104,9 @@ steps_line name = with_rule (with_rule (over_file name) (count (codes "steps") (
 abbrev pub ris_line : App
 ris_line = with_rule (keys_line (codes "ris")) (switch (codes "dropped"))
 
--- `import F [--print] [--new-journal]`
+-- `import F [--print] [--new-journal] [--no-journal]`
 abbrev pub import_line : App
-import_line = with_rule (with_rule (over_file (codes "import")) (switch (codes "print"))) (switch (codes "new-journal"))
+import_line = adding (with_rule (over_file (codes "import")) (switch (codes "print")))
 
 -- `explain FAULT`
 abbrev pub explain_line : App
@@ -118,7 +130,8 @@ bibkeep_top = on_top (λ s. record s { has_version = true; subcommand_required =
 
 -- the program with the commands that show what a file says
 abbrev pub bibkeep_shows : App
-bibkeep_shows = adds (adds (adds (adds (adds bibkeep_top cat_line) (over_file (codes "check"))) (over_file (codes "lint"))) show_line) cite_line
+bibkeep_shows =
+    adds (adds (adds (adds (adds (adds bibkeep_top cat_line) (over_file (codes "check"))) (over_file (codes "lint"))) show_line) entry_line) cite_line
 
 -- and with those that make labels, JSON, names or keys of it
 abbrev pub bibkeep_makes : App
@@ -170,7 +183,10 @@ command_of name rows = record {
   depth = depth rows;
   print = given (codes "print") rows;
   new_journal = given (codes "new-journal") rows;
+  no_journal = given (codes "no-journal") rows;
+  all_or_nothing = given (codes "all-or-nothing") rows;
   dropped = given (codes "dropped") rows;
+  at = given (codes "at") rows;
 }
 
 -- the words name this command by clap's exact matching

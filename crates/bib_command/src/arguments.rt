@@ -74,6 +74,18 @@ pub fn new_journal<'a>(alloc: Global) -> Arg<'a>
     )
 }
 
+/// `--no-journal`.
+pub fn no_journal<'a>(alloc: Global) -> Arg<'a>
+    ensures rule { rule_of result ≡ switch (codes "no-journal") }
+    ensures local { result.global ≡ false }
+{
+    switch(
+        alloc,
+        "no-journal",
+        "Reads and writes no journal: this change cannot be undone, nor any before it",
+    )
+}
+
 /// `--hints`.
 pub fn hints<'a>(alloc: Global) -> Arg<'a>
     ensures rule { rule_of result ≡ switch (codes "hints") }

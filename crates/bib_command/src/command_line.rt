@@ -3,10 +3,11 @@
 ghost use Rattle.std.specs.Prelude.{◌≡◌, IfOk, codes};
 ghost use Rattle.clap.specs.Words.{App, new_app};
 ghost use Rattle.bib_command.specs.Lines.{Reads};
-ghost use Rattle.bib_command.specs.CommandLine.{adds, over_file, cat_line, show_line, cite_line, keys_line, names_line, newkeys_line, edit_line, steps_line, ris_line, import_line, explain_line, bibkeep_top, bibkeep_shows, bibkeep_makes, bibkeep_edits, bibkeep};
+ghost use Rattle.bib_command.specs.CommandLine.{adds, over_file, cat_line, show_line, entry_line, cite_line, edit_or_print_line, keys_line, names_line, newkeys_line, edit_line, steps_line, ris_line, import_line, explain_line, bibkeep_top, bibkeep_shows, bibkeep_makes, bibkeep_edits, bibkeep};
 
 use crate::arguments::{
-    any_file, count, edit_words, hints, keys, levels, needed, new_journal, print, switch,
+    any_file, count, edit_words, hints, keys, levels, needed, new_journal, no_journal, print,
+    switch,
 };
 use clap::Command;
 use std::alloc::{AllocError, Global};
@@ -51,7 +52,8 @@ fn shows<'a>(alloc: Global) -> Result<Command<'a>, AllocError>
         adds(alloc, adds(alloc, top(alloc), cat(alloc)), check(alloc)),
         lint(alloc),
     );
-    adds(alloc, adds(alloc, checks, show(alloc)), cite(alloc))
+    let entries = adds(alloc, adds(alloc, checks, show(alloc)), entry(alloc));
+    adds(alloc, entries, cite(alloc))
 }
 
 /// The command with one more subcommand, which has the option `--hints` too, if there was memory to make both.
@@ -154,6 +156,30 @@ Examples:
     .arg(levels(alloc))
 }
 
+fn entry<'a>(alloc: Global) -> Result<Command<'a>, AllocError>
+    ensures { IfOk result (Reads entry_line) }
+{
+    over_file(
+        alloc,
+        "entry",
+        "Prints entries as they stand in the file, byte for byte",
+        "\
+Each entry is printed from its at-sign to its closing brace, with a line feed after it, in the order of the keys. A key
+that several entries have names the first of them.
+
+Examples:
+  bibkeep entry refs.bib knuth86
+  bibkeep entry refs.bib --at knuth86   # first a line: item (from 0), tab, line, tab, column
+  bibkeep entry refs.bib '*'            # every entry, without what stands between them",
+    )?
+    .arg(keys(alloc))?
+    .arg(switch(
+        alloc,
+        "at",
+        "Prints a line before each entry: the number of its item, counted from 0, its line and its column",
+    ))
+}
+
 fn cite<'a>(alloc: Global) -> Result<Command<'a>, AllocError>
     ensures { IfOk result (Reads cite_line) }
 {
@@ -250,6 +276,20 @@ Examples:
 fn edit<'a>(alloc: Global) -> Result<Command<'a>, AllocError>
     ensures { IfOk result (Reads edit_line) }
 {
+    edit_or_print(alloc)?
+        .arg(new_journal(alloc))?
+        .arg(no_journal(alloc))?
+        .arg(switch(
+            alloc,
+            "all-or-nothing",
+            "Stores nothing if a line of the script is refused",
+        ))
+}
+
+/// `edit` without the options that say what is stored.
+fn edit_or_print<'a>(alloc: Global) -> Result<Command<'a>, AllocError>
+    ensures { IfOk result (Reads edit_or_print_line) }
+{
     over_file(
         alloc,
         "edit",
@@ -271,8 +311,8 @@ by tabs (shown here as spaces):
   group LABEL                            begins a step: one undo takes back the edits up to its end
   end                                    ends the step
 Arguments make one edit, so group and end are for standard input only. Put -- before words that begin with a hyphen.
-The first refused line stops the script; the edits before it are kept. `bibkeep undo F` takes back the last edit or step,
-`bibkeep undo F --steps N` the last N.
+The first refused line stops the script; the edits before it are kept, unless --all-or-nothing is given. `bibkeep undo F`
+takes back the last edit or step, `bibkeep undo F --steps N` the last N; after --no-journal nothing can be taken back.
 
 Examples:
   bibkeep edit refs.bib set knuth86 year 1986
@@ -281,8 +321,7 @@ Examples:
   printf 'set\\tknuth86\\tnote\\t{x}\\ndrop\\tknuth86\\tpages\\n' | bibkeep edit refs.bib",
     )?
     .arg(edit_words(alloc))?
-    .arg(print(alloc))?
-    .arg(new_journal(alloc))
+    .arg(print(alloc))
 }
 
 fn undo<'a>(alloc: Global) -> Result<Command<'a>, AllocError>
@@ -384,7 +423,8 @@ Examples:
   printf 'TY  - BOOK\\nTI  - Type\\nER  - \\n' | bibkeep import refs.bib",
     )?
     .arg(print(alloc))?
-    .arg(new_journal(alloc))
+    .arg(new_journal(alloc))?
+    .arg(no_journal(alloc))
 }
 
 fn explain<'a>(alloc: Global) -> Result<Command<'a>, AllocError>

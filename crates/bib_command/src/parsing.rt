@@ -83,7 +83,10 @@ fn command_of(alloc: Global, name: &str, matches: &ArgMatches<'_>) -> Result<Com
         depth: depth_of(matches),
         print: is_given(matches, "print"),
         new_journal: is_given(matches, "new-journal"),
+        no_journal: is_given(matches, "no-journal"),
+        all_or_nothing: is_given(matches, "all-or-nothing"),
         dropped: is_given(matches, "dropped"),
+        at: is_given(matches, "at"),
     })
 }
 

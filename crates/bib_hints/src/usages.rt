@@ -52,7 +52,8 @@ fn hint_edit_usage(lines: &mut Lines, words: &[String]) -> Result<(), AllocError
 }
 
 fn takes_keys(command: &[u8]) -> bool {
-    command == b"cite".as_slice()
+    command == b"entry".as_slice()
+        || command == b"cite".as_slice()
         || command == b"labels".as_slice()
         || command == b"json".as_slice()
         || command == b"ris".as_slice()

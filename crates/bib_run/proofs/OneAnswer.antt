@@ -32,14 +32,16 @@ use Rattle.bib_answers.specs.Names.{Spells, IsNamesAnswer, names_answer}
 use Rattle.bib_answers.specs.Lint.{lint_answer, fault_lines}
 use Rattle.bib_faults.specs.GoingOn.{Fault}
 use Rattle.bib_faults.proofs.GoingOnLaws.{one-list-of-faults}
+use Rattle.bib_run.specs.EditAnswer.{whole}
+use Rattle.bib_run.specs.Shown.{kept_with}
 use Rattle.bib_run.specs.ImportAnswer.{import_fault_line, added_answer}
 use Rattle.bib_run.specs.Turns.{turned_line}
 use Rattle.bib_run.specs.Log.{log_text, journal_left}
-use Rattle.bib_words.specs.declared.verbs.Question.TheVariants.{Check, Show, Cite, Labels, Json, NewKeys, Ris}
+use Rattle.bib_words.specs.declared.verbs.Question.TheVariants.{Check, Show, Entry, Cite, Labels, Json, NewKeys, Ris}
 use Rattle.bib_words.specs.declared.verbs.Verb.{Verb}
 use Rattle.bib_words.specs.declared.verbs.Verb.TheVariants.{Asks, Cat, Lint, Names, Explain, Edit, Import, Undo, Redo, Log, Forget}
 use Rattle.bib_words.specs.Verbs.{verb_of}
-use Rattle.bib_run.specs.Answers.{Answers, IsEditsAnswer, question_answer, key_word, template_word}
+use Rattle.bib_run.specs.Answers.{Answers, IsEditsAnswer, IsWholeAnswer, question_answer, key_word, template_word}
 use Rattle.bib_run.specs.OneAnswer.{one_answer}
 use Rattle.bib_run.proofs.StoredRuns.{not_unopened, not_unfit, not_refused_with, opened-is}
 
@@ -308,13 +310,17 @@ one_edits command file journal input a b (IsEditsAnswer.words more is) (IsEditsA
 one_edits command file journal input a b (IsEditsAnswer.words more is) (IsEditsAnswer.words more' is') =
     one_session command.new_journal (HasEditedByWords (key_words command)) file journal (one_words (key_words command)) a b is is'
 
+one_whole : (command : Command) (file : Text) (journal : Option Text) (input : Text) → One (IsWholeAnswer command file journal input)
+one_whole command file journal input a b x y =
+    x.whole ∙ ap (whole command.all_or_nothing) (one_edits command file journal input x.made y.made x.edits y.edits) ∙ sym y.whole
+
 one_of_verb : (verb : Verb) (command : Command) (file : Text) (journal : Option Text) (input : Text) → verb ≢ Explain → One (Answers verb command file journal input)
 one_of_verb (Asks question) command file journal input other = one_of_file (question_answer question command) file
 one_of_verb Cat command file journal input other = one_cat file
 one_of_verb Lint command file journal input other = one_lint (first_word command) file
 one_of_verb Names command file journal input other = one_names command.depth (key_word command) (template_word command) file
 one_of_verb Explain command file journal input other = absurd (other refl)
-one_of_verb Edit command file journal input other = one_edits command file journal input
+one_of_verb Edit command file journal input other = one_whole command file journal input
 one_of_verb Import command file journal input other =
     one_session command.new_journal (AnswersInput HasImported input) file journal (λ s good. one_input HasImported input s (one_imported input s good))
 one_of_verb Undo command file journal input other = one_turned (codes "undone") request.Undo command.n file journal
@@ -359,15 +365,16 @@ explain_named name is =
     (skip (bytes_eq name (codes "json")) (Asks Json) _ refl
     (skip (bytes_eq name (codes "labels")) (Asks Labels) _ refl
     (skip (bytes_eq name (codes "cite")) (Asks Cite) _ refl
+    (skip (bytes_eq name (codes "entry")) (Asks Entry) _ refl
     (skip (bytes_eq name (codes "show")) (Asks Show) _ refl
     (skip (bytes_eq name (codes "lint")) Lint _ refl
     (skip (bytes_eq name (codes "check")) (Asks Check) _ refl
     (skip (bytes_eq name (codes "cat")) Cat _ refl
-    is)))))))))))))))))
+    is))))))))))))))))))
 
 pub one-answer : one_answer
 one-answer command file journal input a b other is also =
     is.shown
-    ∙ ap (shown command.print)
+    ∙ ap (λ (s : Answer). shown command.print (kept_with command.no_journal s))
     (one_of_some (verb_of command.name) command file journal input (λ e. other (explain_named command.name e)) is.stored also.stored is.answers also.answers)
     ∙ sym also.shown

@@ -3,7 +3,7 @@ use Rattle.bib_run.proofs.Words.{◌≡◌, ◌≢◌, ℕ, Bool, true, false, �
 use Rattle.bib_run.proofs.Words.{KeptSteps, AddMany, Request, SessionFault, Unopened, BadJournal, JournalMismatch, Saved, Saves, SessionState, idle, Opens, IsOpened, RefusesOpen, Performs, HasTurned, one-opening, opened_is_sound, open_fault, Additions, Said, said_of, asked_by_words, Command, Answer}
 use Rattle.bib_run.proofs.Words.{IsUnopened, IsUnfit, OpensWith, judged_journal, bad_journal_line, mismatch_line, fault_line, outcome_after, AnswersSession, AnswersInput, HasEdited, HasEditedBy, HasEditedByWords, IsEditAnswer, IsWordsAnswer, changes_of, stop_line, fault_message, HasAdded}
 use Rattle.bib_run.proofs.Words.{HasImported, IsImportAnswer, IsTurnAnswer, IsLogAnswer, key_words, shown}
-use Rattle.std.proofs.Common.{suc, ◌&&◌, if◌then◌else◌, IsSomeAnd, ◌∷◌, unwrap_or, ◌⊎◌, ⊎_elim, eqb-true}
+use Rattle.std.proofs.Common.{suc, not, ◌&&◌, if◌then◌else◌, IsSomeAnd, ◌∷◌, unwrap_or, ◌⊎◌, ⊎_elim, eqb-true}
 use Rattle.std.specs.Option.{option_map_or}
 use Rattle.std.proofs.lemmas.Bool.{cases_Bool, cond-true, cond-false, and_parts}
 use Rattle.std.proofs.lemmas.List.Folds.{list_all-append}
@@ -28,9 +28,10 @@ use Rattle.bib_script.specs.Words.{step_of, label_of_words}
 use Rattle.bib_words.specs.declared.verbs.Verb.{Verb}
 use Rattle.bib_words.specs.declared.verbs.Verb.TheVariants as verbs
 use Rattle.bib_words.specs.Verbs.{verb_of, reads_journal}
-use Rattle.bib_run.specs.EditAnswer.{edits_in}
-use Rattle.bib_run.specs.Answers.{Answers, IsEditsAnswer}
-use Rattle.bib_run.specs.StoredRuns.{edits_asked, stored, OpensSession, AsksEdits, AsksAdditions, Requests, Asks, Accepts, a_run_is_a_session, Call, AreAccepted, runs_of_the_program_are_one_session, one_undo_leads_to_the_first_file, one_redo_leads_to_the_last_file, renames, runs_of_renamings_keep_every_record}
+use Rattle.bib_run.specs.EditAnswer.{edits_in, taken_back, whole}
+use Rattle.bib_run.specs.Shown.{kept_with}
+use Rattle.bib_run.specs.Answers.{Answers, IsEditsAnswer, IsWholeAnswer}
+use Rattle.bib_run.specs.StoredRuns.{edits_asked, stored, OpensSession, AsksEdits, AsksAdditions, Requests, Asks, Accepts, a_run_is_a_session, Call, AreAccepted, runs_of_the_program_are_one_session, one_undo_leads_to_the_first_file, one_redo_leads_to_the_last_file, renames, runs_of_renamings_keep_every_record, IsStoredRun, a_refused_script_leaves_the_disk}
 
 -- ---- scripts
 
@@ -338,8 +339,24 @@ edits_run : (command : Command) (input : Text) (kept : KeptSteps) (old new : OnD
 edits_run command input kept old new answer opens named (IsEditsAnswer.script lone is) stores = edit_run command input kept old new answer opens named lone is stores
 edits_run command input kept old new answer opens named (IsEditsAnswer.words more is) stores = words_run command input kept old new answer opens named more is stores
 
+-- with `--all-or-nothing` nothing is stored if anything is refused
+whole_run : (command : Command) (input : Text) (kept : KeptSteps) (old new : OnDisk) (answer : Answer) → Opens old.file old.journal kept → verb_of command.name ≡ Some verbs.Edit
+    → IsWholeAnswer command old.file old.journal input answer → new ≡ stored old answer.outcome → IsSession command input kept new
+whole_run command input kept old new answer opens named is stores =
+    let made = is.made in
+    let refused = command.all_or_nothing && not (made.outcome.status == 0) in
+    ⊎_elim
+    (λ (t : refused ≡ true).
+    let back : answer ≡ taken_back made = is.whole ∙ cond-true refused (taken_back made) made t in
+    let asks = asked verbs.Edit command kept.present input [] named (AsksEdits.taken_back (and_parts command.all_or_nothing (not (made.outcome.status == 0)) t).0) in
+    asks_nothing command input kept old new asks opens (stores ∙ ap (λ (a : Answer). stored old a.outcome) back))
+    (λ (f : refused ≡ false).
+    let same : answer ≡ made = is.whole ∙ cond-false refused (taken_back made) made f in
+    edits_run command input kept old new made opens named is.edits (stores ∙ ap (λ (a : Answer). stored old a.outcome) same))
+    (cases_Bool refused)
+
 answered_run : (verb : Option Verb) (command : Command) (input : Text) (kept : KeptSteps) (old new : OnDisk) (answer : Answer) → verb_of command.name ≡ verb
-    → IsSomeAnd verb (λ v. reads_journal v ≡ true) → Opens old.file old.journal kept → IsSomeAnd verb (λ v. Answers v command old.file old.journal input answer)
+    → IsSomeAnd verb (λ v. (reads_journal v && not command.no_journal) ≡ true) → Opens old.file old.journal kept → IsSomeAnd verb (λ v. Answers v command old.file old.journal input answer)
     → new ≡ stored old answer.outcome → IsSession command input kept new
 answered_run None command input kept old new answer named reads opens is stores = absurd reads
 answered_run (Some (verbs.Asks question)) command input kept old new answer named reads opens is stores = absurd (false≢true reads)
@@ -348,7 +365,7 @@ answered_run (Some verbs.Lint) command input kept old new answer named reads ope
 answered_run (Some verbs.Names) command input kept old new answer named reads opens is stores = absurd (false≢true reads)
 answered_run (Some verbs.Explain) command input kept old new answer named reads opens is stores = absurd (false≢true reads)
 answered_run (Some verbs.Forget) command input kept old new answer named reads opens is stores = absurd (false≢true reads)
-answered_run (Some verbs.Edit) command input kept old new answer named reads opens is stores = edits_run command input kept old new answer opens named is stores
+answered_run (Some verbs.Edit) command input kept old new answer named reads opens is stores = whole_run command input kept old new answer opens named is stores
 answered_run (Some verbs.Import) command input kept old new answer named reads opens is stores = import_run command input kept old new answer opens named is stores
 answered_run (Some verbs.Undo) command input kept old new answer named reads opens is stores =
     turn_run command input kept old new answer (codes "undone") request.Undo opens (asked verbs.Undo command kept.present input (replicate command.n request.Undo) named refl) is stores
@@ -356,9 +373,16 @@ answered_run (Some verbs.Redo) command input kept old new answer named reads ope
     turn_run command input kept old new answer (codes "redone") request.Redo opens (asked verbs.Redo command kept.present input (replicate command.n request.Redo) named refl) is stores
 answered_run (Some verbs.Log) command input kept old new answer named reads opens is stores = log_run command input kept old new answer opens named is stores
 
+-- a run without `--print` and `--no-journal` answers what is to be stored
+plain : (command : Command) (input : Text) (old new : OnDisk) (run : IsStoredRun command input old new) → run.answer ≡ run.answers.stored
+plain command input old new run =
+    run.answers.shown
+    ∙ ap (λ (b : Bool). shown b (kept_with command.no_journal run.answers.stored)) run.kept
+    ∙ ap (λ (b : Bool). kept_with b run.answers.stored) run.journaled
+
 pub a-run-is-a-session : a_run_is_a_session
 a-run-is-a-session command input kept old new reads opens run =
-    let same : run.answer ≡ run.answers.stored = run.answers.shown ∙ ap (λ (b : Bool). shown b run.answers.stored) run.kept in
+    let same = plain command input old new run in
     answered_run (verb_of command.name) command input kept old new run.answers.stored refl reads opens run.answers.answers (run.stores ∙ ap (λ (a : Answer). stored old a.outcome) same)
 
 -- ---- runs one after another
@@ -384,14 +408,16 @@ asked_by : (name : Text) (command : Command) (present input : Text) (requests : 
 asked_by name command present input requests named asks = subst (λ (n : Text). IsSomeAnd (verb_of n) (λ verb. Requests verb command present input requests)) named asks
 
 -- a run of a command with this name is a session
-opens_session : (name : Text) (command : Command) → command.name ≡ name → IsSomeAnd (verb_of name) (λ verb. reads_journal verb ≡ true) → OpensSession command
-opens_session name command named reads = subst (λ (n : Text). IsSomeAnd (verb_of n) (λ verb. reads_journal verb ≡ true)) (sym named) reads
+opens_session : (name : Text) (command : Command) → command.name ≡ name → command.no_journal ≡ false → IsSomeAnd (verb_of name) (λ verb. (reads_journal verb && not false) ≡ true) → OpensSession command
+opens_session name command named journaled reads =
+    subst (λ (n : Text). IsSomeAnd (verb_of n) (λ verb. (reads_journal verb && not command.no_journal) ≡ true)) (sym named)
+    (subst (λ (b : Bool). IsSomeAnd (verb_of name) (λ verb. (reads_journal verb && not b) ≡ true)) (sym journaled) reads)
 
 pub one-undo-leads-to-the-first-file : one_undo_leads_to_the_first_file
 one-undo-leads-to-the-first-file calls undo input first kept old mid new begins runs opens named enough run =
     let before = runs-are-one-session calls first old mid begins runs in
     let same : before.1.closed ≡ kept = one-opening mid.file mid.journal before.1.closed kept before.1.opens opens in
-    let this : IsSession undo input kept new = a-run-is-a-session undo input kept mid new (opens_session (codes "undo") undo named refl) opens run in
+    let this : IsSession undo input kept new = a-run-is-a-session undo input kept mid new (opens_session (codes "undo") undo named run.journaled refl) opens run in
     let accepts = this.2 in
     let performs : Performs (replicate undo.n request.Undo) accepts.done accepts.fault (idle kept) accepts.reached =
     subst (λ (rs : List Request). Performs rs accepts.done accepts.fault (idle kept) accepts.reached) (asked_by (codes "undo") undo kept.present input accepts.requests named accepts.asks) accepts.performs in
@@ -403,7 +429,7 @@ one-undo-leads-to-the-first-file calls undo input first kept old mid new begins 
 
 pub one-redo-leads-to-the-last-file : one_redo_leads_to_the_last_file
 one-redo-leads-to-the-last-file redo input kept mid new opens named enough run =
-    let this : IsSession redo input kept new = a-run-is-a-session redo input kept mid new (opens_session (codes "redo") redo named refl) opens run in
+    let this : IsSession redo input kept new = a-run-is-a-session redo input kept mid new (opens_session (codes "redo") redo named run.journaled refl) opens run in
     let accepts = this.2 in
     let performs : Performs (replicate redo.n request.Redo) accepts.done accepts.fault (idle kept) accepts.reached =
     subst (λ (rs : List Request). Performs rs accepts.done accepts.fault (idle kept) accepts.reached) (asked_by (codes "redo") redo kept.present input accepts.requests named accepts.asks) accepts.performs in
@@ -429,6 +455,7 @@ ended_rename requests all = by_end (leaves_open false requests)
 edits_rename : (command : Command) (input : Text) (requests : List Request) → AllRename (edits_asked command input) → AsksEdits command input requests → AllRename requests
 edits_rename command input requests all AsksEdits.edits = all
 edits_rename command input requests all (AsksEdits.too_long far) = refl
+edits_rename command input requests all (AsksEdits.taken_back asked) = refl
 
 accepted_rename : (calls : List Call) (accepted : List (List Request)) (old new : KeptSteps) → list_all renames calls ≡ true → AreAccepted calls accepted old new
     → AllRename (requests_of accepted)
@@ -450,3 +477,34 @@ runs-of-renamings-keep-every-record calls kept old new opens all runs =
     subst (λ (file : Text). OfReadings old.file file KeepsTexts) (opened_present new.file new.journal one.1.closed one.1.opens)
     (subst (λ (file : Text). OfReadings file one.1.closed.present KeepsTexts) (opened_present old.file old.journal kept opens)
     (all-keep (requests_of one.0) (idle kept) (idle one.1.closed) (accepted_rename calls one.0 kept one.1.closed all one.2) one.1.did))
+
+-- ---- `--all-or-nothing`
+
+-- another number than 0
+not_zero : (n : ℕ) → n ≢ 0 → not (n == 0) ≡ true
+not_zero n other = ⊎_elim
+    (λ (h : (n == 0) ≡ true). absurd (other (eqb-true n 0 h)))
+    (λ (h : (n == 0) ≡ false). ap not h)
+    (cases_Bool (n == 0))
+
+-- what is refused is taken back
+refused_whole : (all : Bool) (made answer : Answer) (old : OnDisk) → all ≡ true → answer ≡ whole all made → answer.outcome.status ≢ 0 → stored old answer.outcome ≡ old
+refused_whole all made answer old asked is refused =
+    ⊎_elim
+    (λ (t : here ≡ true). ap (λ (a : Answer). stored old a.outcome) (is ∙ cond-true here (taken_back made) made t))
+    (λ (f : here ≡ false).
+    let same : answer ≡ made = is ∙ cond-false here (taken_back made) made f in
+    let other = not_zero made.outcome.status (λ e. refused (ap (λ (a : Answer). a.outcome.status) same ∙ e)) in
+    absurd (false≢true (sym f ∙ ap (λ b. b && not (made.outcome.status == 0)) asked ∙ other)))
+    (cases_Bool here)
+  where
+    here : Bool
+    here = all && not (made.outcome.status == 0)
+
+pub a-refused-script-leaves-the-disk : a_refused_script_leaves_the_disk
+a-refused-script-leaves-the-disk command input old new named asked run refused =
+    let edits : IsWholeAnswer command old.file old.journal input run.answers.stored =
+    subst (λ (n : Text). IsSomeAnd (verb_of n) (λ verb. Answers verb command old.file old.journal input run.answers.stored)) named run.answers.answers in
+    let same = plain command input old new run in
+    run.stores ∙ ap (λ (a : Answer). stored old a.outcome) same
+    ∙ refused_whole command.all_or_nothing edits.made run.answers.stored old asked edits.whole (λ e. refused (ap (λ (a : Answer). a.outcome.status) same ∙ e))

@@ -21,7 +21,7 @@ use Rattle.bib_answers.specs.Positions.{position, position_after}
 use Rattle.bib_answers.specs.declared.positions.Position.{Position}
 use Rattle.bib_answers.specs.Names.{IsNamesAnswer, names_answer}
 use Rattle.bib_run.specs.declared.reading.Sources.{Sources}
-use Rattle.bib_run.specs.Answers.{Answers, IsEditsAnswer, question_answer, key_word, template_word, script, words}
+use Rattle.bib_run.specs.Answers.{Answers, IsEditsAnswer, IsWholeAnswer, question_answer, key_word, template_word, script, words}
 use Rattle.bib_run.specs.Sources.{front, fronts}
 use Rattle.bib_run.specs.Inputs as inputs
 use Rattle.bib_run.specs.Inputs.{answered}
@@ -156,6 +156,11 @@ IsNamesAnswer-long : (depth : ℕ) (key template bytes : Text) (answer : Answer)
 IsNamesAnswer-long depth key template bytes answer long a =
     record { pattern = a.pattern; spells = a.spells; answers = AnswersFile-long (names_answer depth key a.pattern) bytes answer long a.answers }
 
+IsWholeAnswer-long : (command : Command) (bytes : Text) (journal : Option Text) (input : Text) (answer : Answer) → file_limit < length bytes
+    → IsWholeAnswer command (take (file_limit + 1) bytes) journal input answer → IsWholeAnswer command bytes journal input answer
+IsWholeAnswer-long command bytes journal input answer long a =
+    record { made = a.made; edits = IsEditsAnswer-long command bytes journal input a.made long a.edits; whole = a.whole }
+
 Answers-long : (verb : Verb) (command : Command) (bytes : Text) (journal : Option Text) (input : Text) (answer : Answer) → file_limit < length bytes
     → Answers verb command (take (file_limit + 1) bytes) journal input answer → Answers verb command bytes journal input answer
 Answers-long (Asks question) command bytes journal input answer long = AnswersFile-long (question_answer question command) bytes answer long
@@ -163,7 +168,7 @@ Answers-long Cat command bytes journal input answer long = IsCatAnswer-long byte
 Answers-long Lint command bytes journal input answer long = IsLintAnswer-long (first_word command) bytes answer long
 Answers-long Names command bytes journal input answer long = IsNamesAnswer-long command.depth (key_word command) (template_word command) bytes answer long
 Answers-long Explain command bytes journal input answer long = λ given. given
-Answers-long Edit command bytes journal input answer long = IsEditsAnswer-long command bytes journal input answer long
+Answers-long Edit command bytes journal input answer long = IsWholeAnswer-long command bytes journal input answer long
 Answers-long Import command bytes journal input answer long = AnswersSession-long command.new_journal (AnswersInput HasImported input) bytes journal answer long
 Answers-long Undo command bytes journal input answer long = IsTurnAnswer-long (codes "undone") request.Undo command.n bytes journal answer long
 Answers-long Redo command bytes journal input answer long = IsTurnAnswer-long (codes "redone") request.Redo command.n bytes journal answer long
@@ -182,6 +187,11 @@ IsEditsAnswer-input : (command : Command) (file : Text) (journal : Option Text) 
 IsEditsAnswer-input command file journal input answer long (script alone given) = script alone (AnswersSession-input command.new_journal HasEditedBy file journal input answer long given)
 IsEditsAnswer-input command file journal input answer long (words more given) = words more given
 
+IsWholeAnswer-input : (command : Command) (file : Text) (journal : Option Text) (input : Text) (answer : Answer) → file_limit < length input
+    → IsWholeAnswer command file journal (take (file_limit + 1) input) answer → IsWholeAnswer command file journal input answer
+IsWholeAnswer-input command file journal input answer long a =
+    record { made = a.made; edits = IsEditsAnswer-input command file journal input a.made long a.edits; whole = a.whole }
+
 Answers-input : (verb : Verb) (command : Command) (file : Text) (journal : Option Text) (input : Text) (answer : Answer) → file_limit < length input
     → Answers verb command file journal (take (file_limit + 1) input) answer → Answers verb command file journal input answer
 Answers-input (Asks question) command file journal input answer long = λ given. given
@@ -189,7 +199,7 @@ Answers-input Cat command file journal input answer long = λ given. given
 Answers-input Lint command file journal input answer long = λ given. given
 Answers-input Names command file journal input answer long = λ given. given
 Answers-input Explain command file journal input answer long = λ given. given
-Answers-input Edit command file journal input answer long = IsEditsAnswer-input command file journal input answer long
+Answers-input Edit command file journal input answer long = IsWholeAnswer-input command file journal input answer long
 Answers-input Import command file journal input answer long = AnswersSession-input command.new_journal HasImported file journal input answer long
 Answers-input Undo command file journal input answer long = λ given. given
 Answers-input Redo command file journal input answer long = λ given. given

@@ -4,7 +4,7 @@ use Rattle.bib_spec.specs.Text.{Text}
 use Rattle.bib_spec.specs.Reading.{Reading}
 use Rattle.bib_words.specs.declared.commands.Command.{Command}
 use Rattle.bib_words.specs.declared.verbs.Question.{Question}
-use Rattle.bib_words.specs.declared.verbs.Question.TheVariants.{Check, Show, Cite, Labels, Json, NewKeys, Ris}
+use Rattle.bib_words.specs.declared.verbs.Question.TheVariants.{Check, Show, Entry, Cite, Labels, Json, NewKeys, Ris}
 use Rattle.bib_words.specs.declared.verbs.Verb.{Verb}
 use Rattle.bib_words.specs.declared.verbs.Verb.TheVariants.{Asks, Cat, Lint, Names, Explain, Edit, Undo, Redo, Log, Forget, Import}
 use Rattle.bib_words.specs.Verbs.{verb_of}
@@ -13,6 +13,7 @@ use Rattle.bib_answers.specs.Cat.{IsCatAnswer}
 use Rattle.bib_answers.specs.Opened.{AnswersFile}
 use Rattle.bib_answers.specs.Check.{check_answer}
 use Rattle.bib_answers.specs.Show.{show_answer}
+use Rattle.bib_answers.specs.Entry.{entry_answer}
 use Rattle.bib_answers.specs.Cite.{cite_answer}
 use Rattle.bib_answers.specs.Labels.{labels_answer}
 use Rattle.bib_answers.specs.Json.{json_answer}
@@ -22,11 +23,11 @@ use Rattle.bib_run.specs.Explaining.{IsExplainAnswer}
 use Rattle.bib_run.specs.Ris.{ris_answer}
 use Rattle.bib_answers.specs.Names.{IsNamesAnswer}
 use Rattle.bib_data.specs.declared.request.Request.TheVariants as request
-use Rattle.bib_run.specs.EditAnswer.{IsEditAnswer, IsWordsAnswer}
+use Rattle.bib_run.specs.EditAnswer.{IsEditAnswer, IsWordsAnswer, whole}
 use Rattle.bib_run.specs.ImportAnswer.{IsImportAnswer}
 use Rattle.bib_run.specs.Turns.{IsTurnAnswer}
 use Rattle.bib_run.specs.Log.{IsLogAnswer, IsForgetAnswer}
-use Rattle.bib_run.specs.Shown.{shown}
+use Rattle.bib_run.specs.Shown.{shown, kept_with}
 
 -- the first word: the name of the file, or for `explain` the fault
 abbrev pub first_word : Command → Text
@@ -48,6 +49,7 @@ key_words command = drop 1 command.words
 abbrev pub question_answer : Question → Command → Reading → Answer
 question_answer Check command = check_answer
 question_answer Show command = show_answer command.depth (key_word command)
+question_answer Entry command = entry_answer command.at (key_words command)
 question_answer Cite command = cite_answer (key_words command) command.n
 question_answer Labels command = labels_answer command.depth (key_words command)
 question_answer Json command = json_answer command.depth (key_words command)
@@ -59,6 +61,12 @@ pub data IsEditsAnswer (command : Command) (file : Text) (journal : Option Text)
   script : length command.words ≡ 1 → IsEditAnswer command.new_journal file journal input answer → IsEditsAnswer command file journal input answer
   words : length command.words ≢ 1 → IsWordsAnswer command.new_journal (key_words command) file journal answer → IsEditsAnswer command file journal input answer
 
+-- what `edit` answers, with `--all-or-nothing` or without
+pub record IsWholeAnswer (command : Command) (file : Text) (journal : Option Text) (input : Text) (answer : Answer) : Type 0 where
+  pub made : Answer
+  pub edits : IsEditsAnswer command file journal input made
+  pub whole : answer ≡ whole command.all_or_nothing made
+
 -- what each command answers to a file, and to its journal and its input if it reads them, when what is new is to be stored
 abbrev pub Answers : Verb → Command → Text → Option Text → Text → Answer → Type 0
 Answers (Asks question) command file journal input = AnswersFile (question_answer question command) file
@@ -66,7 +74,7 @@ Answers Cat command file journal input = IsCatAnswer file
 Answers Lint command file journal input = IsLintAnswer (first_word command) file
 Answers Names command file journal input = IsNamesAnswer command.depth (key_word command) (template_word command) file
 Answers Explain command file journal input = IsExplainAnswer (first_word command)
-Answers Edit command file journal input = IsEditsAnswer command file journal input
+Answers Edit command file journal input = IsWholeAnswer command file journal input
 Answers Import command file journal input = IsImportAnswer command.new_journal file journal input
 Answers Undo command file journal input = IsTurnAnswer (codes "undone") request.Undo command.n file journal
 Answers Redo command file journal input = IsTurnAnswer (codes "redone") request.Redo command.n file journal
@@ -77,8 +85,9 @@ Answers Forget command file journal input = IsForgetAnswer file
 abbrev pub IsStoredAnswer : Command → Text → Option Text → Text → Answer → Type 0
 IsStoredAnswer command file journal input answer = IsSomeAnd (verb_of command.name) (λ verb. Answers verb command file journal input answer)
 
--- the answer of a command to a file, and to its journal and its input if it reads them; with `--print` the new file is its output
+-- the answer of a command to a file, and to its journal and its input if it reads them; with `--no-journal` no journal is stored,
+-- and with `--print` the new file is its output
 pub record IsAnswer (command : Command) (file : Text) (journal : Option Text) (input : Text) (answer : Answer) : Type 0 where
   pub stored : Answer
   pub answers : IsStoredAnswer command file journal input stored
-  pub shown : answer ≡ shown command.print stored
+  pub shown : answer ≡ shown command.print (kept_with command.no_journal stored)

@@ -1,7 +1,8 @@
 -- `edit`: what a script, or the words of one edit, make of a file. (dialect)
-use Rattle.std.specs.Prelude.{ℕ, Bool, ◌≡◌, ◌≢◌, List, ◌++◌, take, sum_by, slice_index_or, Option, Some, None, option_map, codes}
+use Rattle.std.specs.Prelude.{ℕ, Bool, ◌≡◌, ◌≢◌, ◌==◌, ◌&&◌, not, if◌then◌else◌, List, [], ◌++◌, take, sum_by, slice_index_or, Option, Some, None, option_map, codes}
 use Rattle.std.specs.Fmt.{decimal}
 use Rattle.bib_spec.specs.Text.{Text}
+use Rattle.bib_spec.specs.Texts.{is_empty}
 use Rattle.bib_data.specs.declared.request.Request.{Request}
 use Rattle.bib_data.specs.declared.request.Request.TheVariants as request
 use Rattle.bib_journal.specs.declared.fault.SessionFault.{SessionFault}
@@ -100,3 +101,14 @@ pub data HasEditedByWords (words : List Text) (opened : SessionState) (answer : 
 -- `edit F WORD..`: the one edit that the words say
 abbrev pub IsWordsAnswer : Bool → List Text → Text → Option Text → Answer → Type 0
 IsWordsAnswer new_journal words = AnswersSession new_journal (HasEditedByWords words)
+
+-- ---- `--all-or-nothing`
+
+-- The answer when what was done is taken back: nothing is stored, and the output says that nothing was applied, if anything was
+-- said of that. Message and status are unchanged.
+abbrev pub taken_back : Answer → Answer
+taken_back answer = answer_of (if is_empty answer.output then [] else applied_line 0) answer.outcome.message answer.outcome.status
+
+-- the answer, with `--all-or-nothing` or without: with it all is taken back if anything was refused
+abbrev pub whole : Bool → Answer → Answer
+whole all_or_nothing answer = if all_or_nothing && not (answer.outcome.status == 0) then taken_back answer else answer

@@ -1,7 +1,9 @@
--- `--print`: the new file as the output, in place of the command's own output. (dialect)
-use Rattle.std.specs.Prelude.{Bool, if◌then◌else◌, [], unwrap_or}
+-- What is stored and shown of an answer, with `--print` and `--no-journal` or without. (dialect)
+use Rattle.std.specs.Prelude.{Bool, if◌then◌else◌, [], None, unwrap_or}
 use Rattle.bib_answers.specs.declared.answers.Answer.{Answer}
 use Rattle.bib_answers.specs.Outcome.{answer_of}
+
+-- ---- `--print`
 
 -- The output is the file that would be stored, or nothing if none would be. Neither file nor journal is stored; message and status
 -- are unchanged.
@@ -11,3 +13,13 @@ printed answer = answer_of (unwrap_or answer.outcome.file []) answer.outcome.mes
 -- the answer as a command gives it, with `--print` or without
 abbrev pub shown : Bool → Answer → Answer
 shown print answer = if print then printed answer else answer
+
+-- ---- `--no-journal`
+
+-- the answer, of which no journal is stored
+abbrev pub without_journal : Answer → Answer
+without_journal answer = record answer { outcome = record answer.outcome { journal = None } }
+
+-- the answer with what is stored of it, with `--no-journal` or without
+abbrev pub kept_with : Bool → Answer → Answer
+kept_with no_journal answer = if no_journal then without_journal answer else answer

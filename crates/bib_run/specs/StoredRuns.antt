@@ -40,10 +40,11 @@ or_old (Some new) old = Some new
 abbrev pub stored : OnDisk → Outcome → OnDisk
 stored disk outcome = record { file = unwrap_or outcome.file disk.file; journal = or_old outcome.journal disk.journal }
 
--- A run of the command without `--print`: it answers to what is on the disk and to this input, and what its answer leaves is
--- stored.
+-- A run of the command without `--print` and `--no-journal`: it answers to what is on the disk and to this input, and what its
+-- answer leaves is stored.
 pub record IsStoredRun (command : Command) (input : Text) (old new : OnDisk) : Type 0 where
   pub kept : command.print ≡ false
+  pub journaled : command.no_journal ≡ false
   pub answer : Answer
   pub answers : IsAnswer command old.file old.journal input answer
   pub stores : new ≡ stored old answer.outcome
@@ -59,10 +60,12 @@ OpensSession = ReadsJournal
 abbrev pub edits_asked : Command → Text → List Request
 edits_asked command input = if length command.words == 1 then (said_of input).requests else unwrap_or (asked_by_words (key_words command)) []
 
--- the requests of `edit`: the edits of a script or of words, or none if its input is too long
+-- the requests of `edit`: the edits of a script or of words, or none if its input is too long; with `--all-or-nothing` also none
+-- if one is refused
 pub data AsksEdits (command : Command) (input : Text) : List Request → Type 0 where
   edits : AsksEdits command input (edits_asked command input)
   too_long : file_limit < length input → AsksEdits command input []
+  taken_back : command.all_or_nothing ≡ true → AsksEdits command input []
 
 -- the requests of `import`: one addition of all entries that its input says, or none if its input is too long or no RIS text
 pub data AsksAdditions (present input : Text) : List Request → Type 0 where
@@ -150,3 +153,8 @@ renames call = bytes_eq call.command.name (codes "edit") && list_all is_renaming
 abbrev pub runs_of_renamings_keep_every_record : Type 0
 runs_of_renamings_keep_every_record = (calls : List Call) (kept : KeptSteps) (old new : OnDisk) → Opens old.file old.journal kept
     → list_all renames calls ≡ true → AreStoredRuns calls old new → OfReadings old.file new.file KeepsTexts
+
+-- With `--all-or-nothing` a run of `edit` that is refused leaves the disk as it was.
+abbrev pub a_refused_script_leaves_the_disk : Type 0
+a_refused_script_leaves_the_disk = (command : Command) (input : Text) (old new : OnDisk) → command.name ≡ codes "edit" → command.all_or_nothing ≡ true
+    → (run : IsStoredRun command input old new) → run.answer.outcome.status ≢ 0 → new ≡ old

@@ -4,10 +4,10 @@ ghost use Rattle.std.specs.Prelude.{◌≡◌, ◌≤◌, ◌<◌, [], IfOk, opt
 ghost use Rattle.bib_words.specs.Command.{HasItsWords, IsCommand};
 ghost use Rattle.bib_words.specs.Verbs.{question_shape, shape};
 ghost use Rattle.bib_answers.specs.Opened.{AnswersFile};
-ghost use Rattle.bib_run.specs.Answers.{Answers, IsAnswer, IsEditsAnswer, IsStoredAnswer, question_answer, key_words};
-ghost use Rattle.bib_run.specs.Shown.{printed, shown};
+ghost use Rattle.bib_run.specs.Answers.{Answers, IsAnswer, IsEditsAnswer, IsWholeAnswer, IsStoredAnswer, question_answer, key_words};
+ghost use Rattle.bib_run.specs.Shown.{printed, shown, without_journal, kept_with};
 
-use crate::commands::edit::{answer_edit, answer_words};
+use crate::commands::edit::{answer_edit, answer_words, whole};
 use crate::commands::explain::answer_explain;
 use crate::commands::import::answer_import;
 use crate::commands::log::{answer_forget, answer_log};
@@ -15,8 +15,8 @@ use crate::commands::ris::answer_ris;
 use crate::commands::turning::{answer_redo, answer_undo};
 use crate::reading::Sources;
 use bib_answers::{
-    Answer, Outcome, answer_cat, answer_check, answer_cite, answer_json, answer_labels,
-    answer_lint, answer_names, answer_newkeys, answer_show, outcome_of,
+    Answer, Outcome, answer_cat, answer_check, answer_cite, answer_entry, answer_json,
+    answer_labels, answer_lint, answer_names, answer_newkeys, answer_show, outcome_of,
 };
 use bib_scan::Text;
 use bib_words::{Command, Question, Verb};
@@ -64,7 +64,39 @@ fn answer_of(
     ensures { IfOk result (IsAnswer command.now file.items (option_map (λ text. text.now) journal.entry) input.now) }
 {
     let stored = stored_answer_of(alloc, command, file, journal, input)?;
-    Ok(shown(alloc, command.print, stored))
+    let kept = kept_with(command.no_journal, stored);
+    Ok(shown(alloc, command.print, kept))
+}
+
+/// The answer with what is stored of it, with `--no-journal` or without.
+fn kept_with(no_journal: bool, answer: Answer) -> Answer
+    ensures { result ≡ kept_with no_journal answer }
+{
+    if no_journal {
+        return without_journal(answer);
+    }
+    answer
+}
+
+/// The answer, of which no journal is stored.
+fn without_journal(answer: Answer) -> Answer
+    ensures { result ≡ without_journal answer }
+{
+    let Outcome {
+        file,
+        journal: _journal,
+        message,
+        status,
+    } = answer.outcome;
+    Answer {
+        output: answer.output,
+        outcome: Outcome {
+            file,
+            journal: None,
+            message,
+            status,
+        },
+    }
 }
 
 /// The answer as a command gives it, with `--print` or without.
@@ -132,7 +164,7 @@ fn answer_verb(
             answer_names(alloc, file, key, command.depth, template)
         }
         Verb::Explain => answer_explain(alloc, word(command, 0)),
-        Verb::Edit => answer_edits(alloc, command, file, journal, input),
+        Verb::Edit => answer_whole(alloc, command, file, journal, input),
         Verb::Import => answer_import(alloc, file, journal, new_journal, input),
         Verb::Undo => answer_undo(alloc, file, journal, command.n as usize),
         Verb::Redo => answer_redo(alloc, file, journal, command.n as usize),
@@ -155,6 +187,7 @@ fn answer_question(
     match question {
         Question::Check => answer_check(alloc, file),
         Question::Show => answer_show(alloc, file, word(command, 1), depth),
+        Question::Entry => answer_entry(alloc, file, words_after_file(command), command.at),
         Question::Cite => answer_cite(alloc, file, words_after_file(command), n),
         Question::Labels => answer_labels(alloc, file, words_after_file(command), depth),
         Question::Json => answer_json(alloc, file, words_after_file(command), depth),
@@ -180,6 +213,21 @@ fn words_after_file(command: &Command) -> &[Text]
     ensures { result.now ≡ key_words command.now }
 {
     &command.words.as_slice()[1..]
+}
+
+/// What `edit` answers, with `--all-or-nothing` or without.
+fn answer_whole(
+    alloc: Global,
+    command: &Command,
+    file: Vec<u8>,
+    journal: Option<&[u8]>,
+    input: &[u8],
+) -> Result<Answer, AllocError>
+    requires { 1 ≤ length command.now.words }
+    ensures { IfOk result (IsWholeAnswer command.now file.items (option_map (λ text. text.now) journal.entry) input.now) }
+{
+    let made = answer_edits(alloc, command, file, journal, input)?;
+    whole(alloc, command.all_or_nothing, made)
 }
 
 /// What `edit` answers: to the words of one edit, or to a script if there are no words.

@@ -1,7 +1,7 @@
 //! Laws of what a command answers, and of runs of the program, one after another.
 
 ghost use Rattle.bib_run.specs.OneAnswer.{one_answer};
-ghost use Rattle.bib_run.specs.StoredRuns.{a_run_is_a_session, runs_of_the_program_are_one_session, one_undo_leads_to_the_first_file, one_redo_leads_to_the_last_file, runs_of_renamings_keep_every_record};
+ghost use Rattle.bib_run.specs.StoredRuns.{a_run_is_a_session, runs_of_the_program_are_one_session, one_undo_leads_to_the_first_file, one_redo_leads_to_the_last_file, runs_of_renamings_keep_every_record, a_refused_script_leaves_the_disk};
 
 /// The bytes of its file, of its journal and of its input determine the answer of a command, except `explain`, whose
 /// pages are data.
@@ -18,4 +18,10 @@ pub fn runs_of_the_program_are_one_session()
     ensures first { one_undo_leads_to_the_first_file }
     ensures last { one_redo_leads_to_the_last_file }
     ensures renamed { runs_of_renamings_keep_every_record }
+{}
+
+/// With `--all-or-nothing`, a script is stored whole or not at all: a run of `edit` that is refused leaves the file and its
+/// journal as they were.
+pub fn a_refused_script_leaves_the_disk()
+    ensures { a_refused_script_leaves_the_disk }
 {}

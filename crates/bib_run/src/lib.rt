@@ -20,7 +20,9 @@ pub use bib_answers::{Answer, Outcome};
 pub use bib_taps::Tap;
 pub use bib_words::Command;
 pub use engine::run;
-pub use laws::{a_command_has_one_answer, runs_of_the_program_are_one_session};
+pub use laws::{
+    a_command_has_one_answer, a_refused_script_leaves_the_disk, runs_of_the_program_are_one_session,
+};
 pub use messages::{READ_FAULT, WRITE_FAULT};
 pub use reading::{Sources, read_sources};
 pub use sink::write_whole;

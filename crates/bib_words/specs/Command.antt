@@ -1,10 +1,10 @@
 -- Which commands there are, and which arguments, numbers and options each takes.
-use Rattle.std.specs.Prelude.{◌≡◌, ◌≤◌, ℕ, Bool, true, false, length, IfSome, IsSomeAnd}
+use Rattle.std.specs.Prelude.{◌≡◌, ◌≤◌, ◌&&◌, ℕ, Bool, true, false, not, length, IfSome, IsSomeAnd}
 use Rattle.bib_spec.specs.Records.{depth_limit}
 use Rattle.bib_words.specs.declared.commands.Command.{Command}
 use Rattle.bib_words.specs.declared.verbs.Shape.{Shape}
 use Rattle.bib_words.specs.declared.verbs.Verb.{Verb}
-use Rattle.bib_words.specs.Verbs.{verb_of, shape, adds_change, makes_file, reads_journal, takes_input, takes_dropped}
+use Rattle.bib_words.specs.Verbs.{verb_of, shape, adds_change, makes_file, reads_journal, takes_input, takes_dropped, takes_at, takes_scripts}
 
 -- the greatest number that a command takes (dialect)
 abbrev pub number_limit : ℕ
@@ -22,12 +22,15 @@ pub record HasItsWords (shape : Shape) (c : Command) : Type 0 where
   pub number : IsNumber shape.number number_limit c.n
   pub depth : IsNumber shape.depth depth_limit c.depth
 
--- the command takes each option that is given: `--print` if it makes a file, `--new-journal` if it adds a change,
--- `--dropped` if it is `ris` (dialect)
+-- the command takes each option that is given: `--print` if it makes a file, `--new-journal` and `--no-journal` if it adds a
+-- change, `--all-or-nothing` if it takes scripts, `--dropped` if it is `ris`, `--at` if it is `entry` (dialect)
 pub record HasItsOptions (verb : Verb) (c : Command) : Type 0 where
   pub print : c.print ≡ true → makes_file verb ≡ true
   pub new_journal : c.new_journal ≡ true → adds_change verb ≡ true
+  pub no_journal : c.no_journal ≡ true → adds_change verb ≡ true
+  pub all_or_nothing : c.all_or_nothing ≡ true → takes_scripts verb ≡ true
   pub dropped : c.dropped ≡ true → takes_dropped verb ≡ true
+  pub at : c.at ≡ true → takes_at verb ≡ true
 
 -- this command of the program, with its words and options
 pub record IsCommandOf (verb : Verb) (c : Command) : Type 0 where
@@ -46,9 +49,9 @@ AddsChange c = IsSomeAnd (verb_of c.name) (λ verb. adds_change verb ≡ true)
 abbrev pub MakesFile : Command → Type 0
 MakesFile c = IsSomeAnd (verb_of c.name) (λ verb. makes_file verb ≡ true)
 
--- the commands that read the journal of their file
+-- the commands that read the journal of their file; with `--no-journal` none does
 abbrev pub ReadsJournal : Command → Type 0
-ReadsJournal c = IsSomeAnd (verb_of c.name) (λ verb. reads_journal verb ≡ true)
+ReadsJournal c = IsSomeAnd (verb_of c.name) (λ verb. (reads_journal verb && not c.no_journal) ≡ true)
 
 -- the commands that read standard input as well as their file
 abbrev pub TakesInput : Command → Type 0

@@ -2,7 +2,7 @@
 use Rattle.std.specs.Prelude.{ℕ, Bool, true, false, ◌==◌, if◌then◌else◌, Option, Some, None, bytes_eq, codes}
 use Rattle.bib_spec.specs.Text.{Text}
 use Rattle.bib_words.specs.declared.verbs.Question.{Question}
-use Rattle.bib_words.specs.declared.verbs.Question.TheVariants.{Check, Show, Cite, Labels, Json, NewKeys, Ris}
+use Rattle.bib_words.specs.declared.verbs.Question.TheVariants.{Check, Show, Entry, Cite, Labels, Json, NewKeys, Ris}
 use Rattle.bib_words.specs.declared.verbs.Verb.{Verb}
 use Rattle.bib_words.specs.declared.verbs.Verb.TheVariants.{Asks, Cat, Lint, Names, Explain, Edit, Undo, Redo, Log, Forget, Import}
 use Rattle.bib_words.specs.declared.verbs.Shape.{Shape}
@@ -14,6 +14,7 @@ verb_of name =
     else if bytes_eq name (codes "check") then Some (Asks Check)
     else if bytes_eq name (codes "lint") then Some Lint
     else if bytes_eq name (codes "show") then Some (Asks Show)
+    else if bytes_eq name (codes "entry") then Some (Asks Entry)
     else if bytes_eq name (codes "cite") then Some (Asks Cite)
     else if bytes_eq name (codes "labels") then Some (Asks Labels)
     else if bytes_eq name (codes "json") then Some (Asks Json)
@@ -47,6 +48,7 @@ with_keys = record { least = 2; most = None; number = false; depth = true }
 abbrev pub question_shape : Question → Shape
 question_shape Check = alone
 question_shape Show = record with_keys { most = Some 2 }
+question_shape Entry = record with_keys { depth = false }
 question_shape Cite = record with_keys { number = true; depth = false }
 question_shape Labels = with_keys
 question_shape Json = with_keys
@@ -93,3 +95,13 @@ takes_input _ words = false
 abbrev pub takes_dropped : Verb → Bool
 takes_dropped (Asks Ris) = true
 takes_dropped _ = false
+
+-- the commands that take `--at`
+abbrev pub takes_at : Verb → Bool
+takes_at (Asks Entry) = true
+takes_at _ = false
+
+-- the commands that take a script, and so `--all-or-nothing`
+abbrev pub takes_scripts : Verb → Bool
+takes_scripts Edit = true
+takes_scripts _ = false

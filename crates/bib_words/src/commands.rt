@@ -10,8 +10,8 @@ const NUMBER_LIMIT: u32 = 65_535;
 const DEPTH_LIMIT: u8 = 8;
 
 /// A command: its name; its arguments in order, the file first if there is one; its number, and the depth of the records
-/// that it shows, each 0 if the command takes none; and whether its options `--print`, `--new-journal` and `--dropped` were
-/// given.
+/// that it shows, each 0 if the command takes none; and whether its options `--print`, `--new-journal`, `--no-journal`,
+/// `--all-or-nothing`, `--dropped` and `--at` were given.
 #[derive(Drop)]
 pub struct Command {
     pub name: Text,
@@ -20,7 +20,10 @@ pub struct Command {
     pub depth: u8,
     pub print: bool,
     pub new_journal: bool,
+    pub no_journal: bool,
+    pub all_or_nothing: bool,
     pub dropped: bool,
+    pub at: bool,
 }
 
 impl Command {
@@ -62,12 +65,12 @@ impl Command {
         }
     }
 
-    /// Whether the command reads the journal of its file. It takes no memory.
+    /// Whether the command reads the journal of its file: with `--no-journal` none does. It takes no memory.
     pub fn reads_journal(&self) -> bool
         ensures { IsTrue result ↔ ReadsJournal self.now }
     {
         match self.verb() {
-            Some(verb) => verb.reads_journal(),
+            Some(verb) => verb.reads_journal() && !self.no_journal,
             None => false,
         }
     }
@@ -99,7 +102,10 @@ impl Command {
     {
         (!self.print || verb.makes_file())
             && (!self.new_journal || verb.adds_change())
+            && (!self.no_journal || verb.adds_change())
+            && (!self.all_or_nothing || verb.takes_scripts())
             && (!self.dropped || verb.takes_dropped())
+            && (!self.at || verb.takes_at())
     }
 
     /// Whether the command has as many arguments as this shape takes, and the number and the depth that it takes.

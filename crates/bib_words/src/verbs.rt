@@ -1,13 +1,14 @@
 //! The commands as data: what each takes and reads.
 
 ghost use Rattle.std.specs.Prelude.{◌≡◌, bytes_eq};
-ghost use Rattle.bib_words.specs.Verbs.{adds_change, makes_file, reads_journal, takes_input, takes_dropped, question_shape, shape, verb_of};
+ghost use Rattle.bib_words.specs.Verbs.{adds_change, makes_file, reads_journal, takes_input, takes_dropped, takes_at, takes_scripts, question_shape, shape, verb_of};
 
 /// A command that answers what its file says, and reads nothing else.
 #[derive(Clone, Copy, Debug, PartialEq, Eq)]
 pub enum Question {
     Check,
     Show,
+    Entry,
     Cite,
     Labels,
     Json,
@@ -79,6 +80,9 @@ impl Verb {
         }
         if is(name, b"show") {
             return Some(Verb::Asks(Question::Show));
+        }
+        if is(name, b"entry") {
+            return Some(Verb::Asks(Question::Entry));
         }
         if is(name, b"cite") {
             return Some(Verb::Asks(Question::Cite));
@@ -161,6 +165,20 @@ impl Verb {
         matches!(self, Verb::Asks(Question::Ris))
     }
 
+    /// Whether the command takes `--at`.
+    pub fn takes_at(self) -> bool
+        ensures { result ≡ takes_at self }
+    {
+        matches!(self, Verb::Asks(Question::Entry))
+    }
+
+    /// Whether the command takes a script.
+    pub fn takes_scripts(self) -> bool
+        ensures { result ≡ takes_scripts self }
+    {
+        matches!(self, Verb::Edit)
+    }
+
     /// What the command takes.
     pub(crate) fn shape(self) -> Shape
         ensures { result ≡ shape self }
@@ -195,6 +213,10 @@ impl Question {
             Question::Check => ALONE,
             Question::Show => Shape {
                 most: Some(2),
+                ..KEYS
+            },
+            Question::Entry => Shape {
+                depth: false,
                 ..KEYS
             },
             Question::Cite => Shape {

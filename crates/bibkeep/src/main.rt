@@ -103,7 +103,7 @@ where
     status
 }
 
-/// Runs the command over its file and its journal, unless it stores something for which there is no room. A link in the
+/// Runs the command over its file and its journal, unless it stores a journal for which there is no room. A link in the
 /// place of the journal is read as an empty text, which is no journal.
 fn run_opened(
     rt: &HostRuntime,
@@ -119,6 +119,7 @@ fn run_opened(
     let paths = opened.paths.as_ref();
     if let Some(paths) = paths
         && stores(command)
+        && !command.no_journal
         && let Err(error) = expect_room(rt, file, paths)
     {
         let status = end(&mut errors(rt), WRITE_FAULT, status::FAULT);

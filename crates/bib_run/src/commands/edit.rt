@@ -7,10 +7,10 @@ ghost use Rattle.bib_journal.specs.Session.{Performs};
 ghost use Rattle.bib_journal.specs.declared.fault.SessionFault.TheVariants.{Memory};
 ghost use Rattle.bib_answers.specs.Outcome.{answer_of};
 ghost use Rattle.bib_run.specs.Inputs.{AnswersInput};
-ghost use Rattle.bib_run.specs.EditAnswer.{script_line, refused_line, bad_line, stop_line, applied_line, changes_of, edits_in, edited_answer, bad_words_line, fault_message, HasEdited, HasEditedBy, HasEditedByWords, IsEditAnswer, IsWordsAnswer};
+ghost use Rattle.bib_run.specs.EditAnswer.{script_line, refused_line, bad_line, stop_line, applied_line, changes_of, edits_in, edited_answer, bad_words_line, fault_message, HasEdited, HasEditedBy, HasEditedByWords, IsEditAnswer, IsWordsAnswer, taken_back, whole};
 
 use crate::sessions::{message_of, open_with, outcome_after, session_fault_name, unopened};
-use bib_answers::{Answer, outcome_of, too_long};
+use bib_answers::{Answer, Outcome, outcome_of, too_long};
 use bib_data::Request;
 use bib_journal::{Performed, Saved, Session, SessionFault, perform};
 use bib_scan::{FILE_LIMIT, Text, copied};
@@ -128,6 +128,37 @@ fn bad_words(alloc: Global) -> Result<Answer, AllocError>
     Ok(Answer {
         output: applied_line(alloc, 0)?,
         outcome: outcome_of(message, status::REFUSED),
+    })
+}
+
+/// The answer, with `--all-or-nothing` or without: with it all is taken back if anything was refused.
+pub fn whole(alloc: Global, all_or_nothing: bool, answer: Answer) -> Result<Answer, AllocError>
+    ensures { IfOk result (λ made. made ≡ whole all_or_nothing answer) }
+{
+    if all_or_nothing && answer.outcome.status != status::DONE {
+        return taken_back(alloc, answer);
+    }
+    Ok(answer)
+}
+
+/// The answer when what was done is taken back: nothing is stored, and nothing was applied.
+fn taken_back(alloc: Global, answer: Answer) -> Result<Answer, AllocError>
+    ensures { IfOk result (λ made. made ≡ taken_back answer) }
+{
+    let output = if answer.output.as_slice().is_empty() {
+        Text::empty(alloc)
+    } else {
+        applied_line(alloc, 0)?
+    };
+    let Outcome {
+        file: _file,
+        journal: _journal,
+        message,
+        status,
+    } = answer.outcome;
+    Ok(Answer {
+        output,
+        outcome: outcome_of(message, status),
     })
 }
 

@@ -1,0 +1,10 @@
+use Rattle.bib_answers.proofs.Words.{◌∙◌, ◌++◌, false, get_or, ap, Text}
+use Rattle.bib_answers.specs.Entry.{entry_text}
+use Rattle.bib_answers.proofs.LineLists.{lines_more}
+use Rattle.bib_answers.proofs.entry.plain_texts.Goals as goal
+
+pub entries-preserved : goal.entries-preserved
+entries-preserved c r reads =
+    c.in_ok-add_entry.ensures r reads
+    ∙ ap (λ (t : Text). t ++ entry_text false r (get_or c.args.list.now c.entries.n-index 0)) (c.entries.invariant r reads)
+    ∙ lines_more (entry_text false r) c.args.list.now c.entries.n-index 0 c.entries-test.true
