@@ -1,4 +1,4 @@
-//! Knows what `cat`, `check`, `show`, `cite`, `labels` and `names`, which read a file alone, answer to its bytes; and how
+//! Knows what `cat`, `check`, `show`, `cite`, `labels`, `names` and `extract`, which read a file alone, answer to its bytes; and how
 //! an answer says that a file is not read. It knows no journals and no edits, no readers and no writers. It promises that
 //! output, message and status are a stated function of the file.
 #![tactic(auto)]
@@ -8,6 +8,7 @@ mod cat;
 mod check;
 mod cite;
 mod citing;
+mod extract;
 mod finding_lines;
 mod findings;
 mod json;
@@ -32,6 +33,7 @@ pub use cat::answer_cat;
 pub use check::answer_check;
 pub use cite::answer_cite;
 pub use citing::all_cited;
+pub use extract::answer_extract;
 pub use json::answer_json;
 pub use labels::answer_labels;
 pub use lint::answer_lint;

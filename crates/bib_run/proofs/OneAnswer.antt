@@ -35,7 +35,7 @@ use Rattle.bib_faults.proofs.GoingOnLaws.{one-list-of-faults}
 use Rattle.bib_run.specs.ImportAnswer.{import_fault_line, added_answer}
 use Rattle.bib_run.specs.Turns.{turned_line}
 use Rattle.bib_run.specs.Log.{log_text, journal_left}
-use Rattle.bib_words.specs.declared.verbs.Question.TheVariants.{Check, Show, Cite, Labels, Json, NewKeys, Ris}
+use Rattle.bib_words.specs.declared.verbs.Question.TheVariants.{Check, Show, Cite, Labels, Json, NewKeys, Ris, Extract}
 use Rattle.bib_words.specs.declared.verbs.Verb.{Verb}
 use Rattle.bib_words.specs.declared.verbs.Verb.TheVariants.{Asks, Cat, Lint, Names, Explain, Edit, Import, Undo, Redo, Log, Forget}
 use Rattle.bib_words.specs.Verbs.{verb_of}
@@ -348,6 +348,7 @@ explain_named name is =
     eq-true name (codes "explain")
     (last (bytes_eq name (codes "explain"))
     (skip (bytes_eq name (codes "import")) Import _ refl
+    (skip (bytes_eq name (codes "extract")) (Asks Extract) _ refl
     (skip (bytes_eq name (codes "ris")) (Asks Ris) _ refl
     (skip (bytes_eq name (codes "forget")) Forget _ refl
     (skip (bytes_eq name (codes "log")) Log _ refl
@@ -363,7 +364,7 @@ explain_named name is =
     (skip (bytes_eq name (codes "lint")) Lint _ refl
     (skip (bytes_eq name (codes "check")) (Asks Check) _ refl
     (skip (bytes_eq name (codes "cat")) Cat _ refl
-    is)))))))))))))))))
+    is))))))))))))))))))
 
 pub one-answer : one_answer
 one-answer command file journal input a b other is also =

@@ -24,4 +24,5 @@ pub use laws::{a_command_has_one_answer, runs_of_the_program_are_one_session};
 pub use messages::{READ_FAULT, WRITE_FAULT};
 pub use reading::{Sources, read_sources};
 pub use sink::write_whole;
+pub use source::{SourceFault, read_up_to};
 pub use writing::write_answer;
