@@ -34,9 +34,9 @@ when extract newline.bib a; ends_with 1; writes_nothing; says 'bibkeep: 6 Unbala
 when extract nothing.bib a; ends_with 3; writes_nothing; says 'bibkeep: read fault'
 
 # The extract can be longer than a file may be, by a line feed for each item.
-when_shell_runs '{ printf "@misc{a,t={"; head -c 16777203 /dev/zero | tr "\0" x; printf "}}"; } >full.bib && "$program" extract full.bib a'; ends_with 1; writes_nothing; says 'bibkeep: 9 FileTooLong'
-when_shell_runs '{ printf "@misc{a,t={"; head -c 1048576 /dev/zero | tr "\0" x; printf "}}"; } >long.bib && "$program" extract long.bib a | wc -c'; ends_with 0; prints '1048590\n'
-rm -f full.bib long.bib
+when_shell_runs 'yes "@misc{a}" | tr -d "\n" | head -c 16777216 >full.bib && "$program" extract full.bib "*"'; ends_with 1; writes_nothing; says 'bibkeep: 9 FileTooLong'
+when_shell_runs '"$program" extract full.bib a'; ends_with 0; prints '@misc{a}\n'; says_nothing
+rm -f full.bib
 
 # ---- `--aux`
 
