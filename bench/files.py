@@ -374,6 +374,11 @@ def line_of_ancestors(papers):
         + [b"@misc{p,author={Ann Publisher},publisher={Publisher},note={%s}}\n" % note])
 
 
+def chain(count):
+    """So many entries, each but the last the child of the next one."""
+    return ring(count).replace(b",crossref={k0}", b"")
+
+
 def ring(count):
     """So many entries, each the child of the next one, and the last the child of the first."""
     return b"".join(b"@misc{k%d,f%d={%d},crossref={k%d}}\n" % (n, n % 16, n, (n + 1) % count) for n in range(count))
@@ -422,6 +427,8 @@ CONTENTS = {
     "long parents 5": lambda: children_of_long(5000),
     "long parents 10": lambda: children_of_long(10000),
     "ancestors": lambda: line_of_ancestors(20000),
+    "chain 50": lambda: chain(50000),
+    "chain 100": lambda: chain(100000),
     "ring 50": lambda: ring(50000),
     "ring 100": lambda: ring(100000),
     "faults 8": lambda: faults(8000000),

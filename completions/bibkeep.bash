@@ -4,7 +4,7 @@
 # run a command that stands in it, and what is offered is quoted for the shell.
 
 _bibkeep() {
-    local commands='cat check lint show entry cite labels json names newkeys edit undo redo log forget ris import explain help'
+    local commands='cat check lint show entry cite labels json names newkeys edit undo redo log forget ris extract import explain help'
     local verbs='set drop add remove move set-type rename-key rename-macro inline introduce regenerate'
     local IFS=$' \t\n' words=() current='' begun='' quote='' tilde='' is_target='' own=() has_ended='' options='' i
 
@@ -20,13 +20,16 @@ _bibkeep() {
     for ((i = 1; i < ${#words[@]}; i++)); do
         case $has_ended${words[i]} in
             --) has_ended=yes ;;
-            --min-crossrefs | --steps | --depth) ((i += 1)) ;;
+            --min-crossrefs | --steps | --depth | --aux) ((i += 1)) ;;
             -*) ;;
             *) own+=("${words[i]}") ;;
         esac
     done
     # the word is the value of an option
-    ((i > ${#words[@]})) && return
+    if ((i > ${#words[@]})); then
+        if [[ ${words[${#words[@]} - 1]} == --aux ]]; then _bibkeep_offer_files .aux; fi
+        return
+    fi
 
     local command=${own[0]-} file=${own[1]-} verb=${own[2]-}
     if [[ ${#own[@]} -eq 0 ]]; then
@@ -36,9 +39,11 @@ _bibkeep() {
     if [[ $current == -* && -z $has_ended ]]; then
         case $command in
             entry) options='--at --hints --help' ;;
-            cite) options='--min-crossrefs --hints --help' ;;
-            show | labels | json | names | newkeys) options='--depth --hints --help' ;;
-            ris) options='--depth --dropped --hints --help' ;;
+            cite) options='--min-crossrefs --strict --aux --hints --help' ;;
+            labels | json) options='--depth --aux --hints --help' ;;
+            show | names | newkeys) options='--depth --hints --help' ;;
+            ris) options='--depth --dropped --aux --hints --help' ;;
+            extract) options='--aux --hints --help' ;;
             edit) options='--print --new-journal --no-journal --all-or-nothing --hints --help' ;;
             import) options='--print --new-journal --no-journal --hints --help' ;;
             undo | redo) options='--steps --print --hints --help' ;;
@@ -53,7 +58,7 @@ _bibkeep() {
         explain:1) _bibkeep_offer < <(_bibkeep_faults) ;;
         explain:*) ;;
         *:1) _bibkeep_offer_files ;;
-        show:2 | names:2 | entry:* | cite:* | labels:* | json:* | ris:*) _bibkeep_offer < <(_bibkeep_keys "$file") ;;
+        show:2 | names:2 | entry:* | cite:* | labels:* | json:* | ris:* | extract:*) _bibkeep_offer < <(_bibkeep_keys "$file") ;;
         edit:2) _bibkeep_offer <<<"${verbs// /$'\n'}" ;;
         edit:3)
             case $verb in
@@ -149,10 +154,10 @@ _bibkeep_reply() {
     if [[ $rest != *[[:cntrl:]]* && $quoted != \$\'* ]]; then COMPREPLY+=("$quoted"); fi
 }
 
-# Offers the .bib files and the folders that begin with `current`. What a variable or the name of a user stands for is left to
+# Offers the files whose names end with $1, or with .bib, and the folders that begin with `current`. What a variable or the name of a user stands for is left to
 # readline.
 _bibkeep_offer_files() {
-    local start=$current name
+    local start=$current suffix=${1:-.bib} name
     if [[ -n $tilde && $current == \~/* ]]; then
         start=$HOME${current:1}
     elif [[ -n $tilde || $current == *\$* ]]; then
@@ -163,12 +168,12 @@ _bibkeep_offer_files() {
         # a name that begins with a hyphen would be taken for an option
         if [[ $name == -* && -z $has_ended ]]; then name=./$name; fi
         _bibkeep_reply "$name"
-    done < <(_bibkeep_names "$start")
+    done < <(_bibkeep_names "$start" "$suffix")
     # a folder is no whole word yet
     if [[ ${#COMPREPLY[@]} -eq 1 && ${COMPREPLY[0]} == */ ]]; then compopt -o nospace 2>/dev/null; fi
 }
 
-# The .bib files, and the folders with a slash, whose names begin with $1, each with a null byte after it.
+# The files whose names end with $2, and the folders with a slash, whose names begin with $1, each with a null byte after it.
 _bibkeep_names() {
     local name
     shopt -u failglob
@@ -176,7 +181,7 @@ _bibkeep_names() {
     for name in "$1"*; do
         if [[ -d $name ]]; then
             printf '%s/\0' "$name"
-        elif [[ -e $name && $name == *.bib ]]; then
+        elif [[ -e $name && $name == *"$2" ]]; then
             printf '%s\0' "$name"
         fi
     done

@@ -10,7 +10,7 @@ function __bibkeep_words
             set is_value no
         else if test $has_ended = yes
             printf '%s\n' $word
-        else if contains -- $word --depth --steps --min-crossrefs
+        else if contains -- $word --depth --steps --min-crossrefs --aux
             set is_value yes
         else if test "$word" = --
             set has_ended yes
@@ -95,12 +95,13 @@ complete -c bibkeep -n __fish_use_subcommand -a redo -d 'Redoes what was undone 
 complete -c bibkeep -n __fish_use_subcommand -a log -d 'Lists the changes that can be undone and redone'
 complete -c bibkeep -n __fish_use_subcommand -a forget -d 'Starts a new journal, and gives up undo of what was done before'
 complete -c bibkeep -n __fish_use_subcommand -a ris -d 'Prints the entries that these keys cite as RIS, for reference managers'
+complete -c bibkeep -n __fish_use_subcommand -a extract -d 'Prints the part of the file that these keys need, byte for byte'
 complete -c bibkeep -n __fish_use_subcommand -a import -d 'Appends the RIS records on standard input as entries'
 complete -c bibkeep -n __fish_use_subcommand -a explain -d 'Explains a refusal: what it means, an example, what to do'
 complete -c bibkeep -n __fish_use_subcommand -a help -d 'Print this message or the help of the given subcommand(s)'
 
-complete -c bibkeep -n '__fish_seen_subcommand_from cat check lint show entry cite labels json names newkeys edit undo redo log forget ris import explain' -s h -l help -d 'Print help'
-complete -c bibkeep -n '__fish_seen_subcommand_from cat check lint show entry cite labels json names newkeys edit undo redo log forget ris import explain' -l hints -d 'Prints hints below a message, as on a terminal'
+complete -c bibkeep -n '__fish_seen_subcommand_from cat check lint show entry cite labels json names newkeys edit undo redo log forget ris extract import explain' -s h -l help -d 'Print help'
+complete -c bibkeep -n '__fish_seen_subcommand_from cat check lint show entry cite labels json names newkeys edit undo redo log forget ris extract import explain' -l hints -d 'Prints hints below a message, as on a terminal'
 complete -c bibkeep -n '__fish_seen_subcommand_from edit import undo redo' -l print -d 'Writes the new file to standard output, and stores nothing'
 complete -c bibkeep -n '__fish_seen_subcommand_from edit import' -l new-journal -d 'Begins a new journal if the old one is not a journal or does not fit the file'
 complete -c bibkeep -n '__fish_seen_subcommand_from edit import' -l no-journal -d 'Reads and writes no journal: this change cannot be undone, nor any before it'
@@ -109,13 +110,15 @@ complete -c bibkeep -n '__fish_seen_subcommand_from entry' -l at -d 'Prints a li
 complete -c bibkeep -n '__fish_seen_subcommand_from undo redo' -l steps -x -d 'How many changes, from 1 to 65535'
 complete -c bibkeep -n '__fish_seen_subcommand_from show labels json names newkeys ris' -l depth -x -d 'From how many parents in a chain an entry inherits, from 1 to 8'
 complete -c bibkeep -n '__fish_seen_subcommand_from ris' -l dropped -d 'Lists the fields that RIS leaves out, as key, tab and field, instead of the RIS text'
+complete -c bibkeep -n '__fish_seen_subcommand_from cite labels json ris extract' -l aux -r -k -a '(__fish_complete_suffix .aux)' -d 'An aux file of LaTeX; the keys that it cites come after the KEYs'
+complete -c bibkeep -n '__fish_seen_subcommand_from cite' -l strict -d 'Ends with status 1 if a key is unknown'
 complete -c bibkeep -n '__fish_seen_subcommand_from cite' -l min-crossrefs -x -d 'How many cited entries must refer to a parent so that it is listed too, from 1 to 65535'
-complete -c bibkeep -n '__bibkeep_has 1 cat check lint show entry cite labels json names newkeys edit undo redo log forget ris import' -k -a '(__fish_complete_suffix .bib)'
+complete -c bibkeep -n '__bibkeep_has 1 cat check lint show entry cite labels json names newkeys edit undo redo log forget ris extract import' -k -a '(__fish_complete_suffix .bib)'
 complete -c bibkeep -n '__bibkeep_has 2 show names' -a '(__bibkeep_keys)'
-complete -c bibkeep -n '__bibkeep_has_at_least 2 entry cite labels json ris' -a '(__bibkeep_keys)'
+complete -c bibkeep -n '__bibkeep_has_at_least 2 entry cite labels json ris extract' -a '(__bibkeep_keys)'
 complete -c bibkeep -n '__bibkeep_has 2 edit' -a 'set drop add remove move set-type rename-key rename-macro inline introduce regenerate'
 complete -c bibkeep -n '__bibkeep_edits 3 set drop remove move rename-key' -a '(__bibkeep_keys)'
 complete -c bibkeep -n '__bibkeep_edits 3 inline rename-macro' -a '(__bibkeep_macros)'
 complete -c bibkeep -n '__bibkeep_edits 4 set drop' -a '(__bibkeep_fields)'
 complete -c bibkeep -n '__bibkeep_has 1 explain' -a '(__bibkeep_faults)'
-complete -c bibkeep -n '__bibkeep_has 1 help' -a 'cat check lint show entry cite labels json names newkeys edit undo redo log forget ris import explain'
+complete -c bibkeep -n '__bibkeep_has 1 help' -a 'cat check lint show entry cite labels json names newkeys edit undo redo log forget ris extract import explain'

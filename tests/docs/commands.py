@@ -88,6 +88,7 @@ def compare_examples(report, root, program, top, commands):
 def lay_examples(examples, folder):
     """The files that the help texts speak of: those of the guide, with the first record of its RIS file."""
     shutil.copy(os.path.join(examples, "guide.bib"), os.path.join(folder, "refs.bib"))
+    shutil.copy(os.path.join(examples, "paper.aux"), folder)
     with open(os.path.join(folder, "citation.ris"), "w", encoding="utf-8") as file:
         file.write(re.match(r"(?s).*?\nER  - \n", read(os.path.join(examples, "citation.ris"))).group(0))
 

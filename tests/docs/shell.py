@@ -13,8 +13,9 @@ CLONE = "git clone URL bibkeep"
 LEFT_OUT = re.compile(r"\b(COMMIT|OLD|NEW)\b|\brt\b|tools/build|--prove|\./test\b")
 ENVIRONMENT = {"PATH": "/usr/bin:/bin"}
 IDENTITY = {name: "nobody" for name in ("GIT_AUTHOR_NAME", "GIT_AUTHOR_EMAIL", "GIT_COMMITTER_NAME", "GIT_COMMITTER_EMAIL")}
-# The file with which a rule for `make` is tried.
+# The file with which a rule for `make` is tried, and the aux file beside it.
 MADE = "refs.bib"
+CITING = "paper.aux"
 
 
 def compare(report, root, pages):
@@ -78,9 +79,11 @@ def compare_block(report, page, block, repository, clone, folder):
 
 
 def compare_rule(report, page, block, text, clone):
-    """The rule of a Makefile is met by a file without a finding, and fails on one."""
+    """The rules of a Makefile are met by a file without a finding, and fail on one; if they read an aux file, on a file without its key."""
     write(os.path.join(clone.path, "Makefile"), text)
-    for content, wanted in [("@misc{a}\n", 0), ("@misc{a, t = m}\n", 2)]:
+    write(os.path.join(clone.path, CITING), "\\citation{a}\n")
+    unmet = "@misc{b}\n" if CITING in text else "@misc{a, t = m}\n"
+    for content, wanted in [("@misc{a}\n", 0), (unmet, 2)]:
         write(os.path.join(clone.path, MADE), content)
         ran = clone.run("make", "--always-make")
         report.expect(ran.returncode == wanted, page.where(block.number), f"{text}ends with {ran.returncode} and says\n{ran.stdout}")

@@ -179,6 +179,8 @@ FIRST = b"@article{anon,\n  title = {A long one}\n}\n"
 SECOND = b"@article{anona,\n  title = {A long one}\n}\n"
 FIRST_ADDED = [(0, b"", FIRST)]
 
+PART = b"\\citation{a}\n@string{m = {x}}@string{n = {y}}\n@misc{a, crossref = {b}, t = m}@misc{b}\n@misc{c, t = n}\n"
+
 READING = [
     Case(("cat", FILE), ROW, output=ROW),
     Case(("cat",), input=ROW, reads=(INPUT,), output=ROW),
@@ -216,6 +218,15 @@ READING = [
         b"TY  - JOUR\nTI  - A long one\nID  - anona\nER  - \n",
     ),
     Case(("ris", FILE, "k1", "zz"), KING, status=1, message=b"bibkeep: 11 NoSuchEntry\n"),
+    Case(("cite", FILE, "--strict", "c1", "zz"), PARENTS, status=1, output=b"c1\n? zz\n"),
+    Case(("extract", FILE, "A"), PART, output=b"@string{m = {x}}\n@misc{a, crossref = {b}, t = m}\n@misc{b}\n"),
+    Case(("extract", FILE, "a", "zz", "yy"), PART, status=1, message=b"bibkeep: 11 NoSuchEntry in zz\n"),
+]
+
+# A text that is both a BibTeX file and an aux file. (What fails in an aux file is told with its name.)
+CITING = [
+    Case(("cite", FILE, "--aux", FILE), PART, output=b"a\n"),
+    Case(("extract", FILE, "b", "--aux", FILE), PART, output=b"@string{m = {x}}\n@misc{a, crossref = {b}, t = m}\n@misc{b}\n"),
 ]
 
 EDITING = [

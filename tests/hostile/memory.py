@@ -2,7 +2,7 @@
 
 from itertools import count
 
-from cases import CASES, FILE, Case, doubled
+from cases import CASES, CITING, FILE, Case, doubled
 from program import NO_MEMORY, WRITE_FAULT, answer_of, refusal_of, seen
 
 LIBRARY = "refuse_memory"
@@ -17,7 +17,7 @@ def tried(report, program):
     if not program.has_library(LIBRARY):
         print("there is no C compiler, or the program is static, so the program's requests for memory are not refused")
         return
-    for case in [*CASES, DOUBLED, *(helped(program, words) for words in HELP)]:
+    for case in [*CASES, *CITING, DOUBLED, *(helped(program, words) for words in HELP)]:
         report.tried("one request for memory refused", case.command, refused_in_turn(program, case, "refused"))
         report.tried("all requests for memory refused from one on", case.command, refused_in_turn(program, case, "from"))
 

@@ -40,6 +40,8 @@ FILES = {
     "fold er/in.bib": ONE,
     "$(id>pwned)/deep.bib": ONE,
     "edits.tsv": "drop\tkey1\tnote\n",
+    "paper.aux": "\\citation{key1}\n",
+    "`id>pwned`.aux": "\\citation{key1}\n",
 }
 
 
@@ -88,6 +90,9 @@ CASES = [
     ("bibkeep show --depth 2 keys.bib x\t", ["bibkeep", "show", "--depth", "2", "keys.bib", "x$(id>pwned)"]),
     ("bibkeep show --depth=2 keys.bib x\t", ["bibkeep", "show", "--depth=2", "keys.bib", "x$(id>pwned)"]),
     ("bibkeep cite keys.bib a:b:c x\t", ["bibkeep", "cite", "keys.bib", "a:b:c", "x$(id>pwned)"]),
+    ("bibkeep extr\t", ["bibkeep", "extract"]),
+    ("bibkeep extract keys.bib a:b:c x\t", ["bibkeep", "extract", "keys.bib", "a:b:c", "x$(id>pwned)"]),
+    ("bibkeep extract keys.bib c\t", ["bibkeep", "extract", "keys.bib", "c:$(id>pwned):e"]),
     ("bibkeep edit keys.bib set x\t", ["bibkeep", "edit", "keys.bib", "set", "x$(id>pwned)"]),
     ("bibkeep edit keys.bib rename-key c\t", ["bibkeep", "edit", "keys.bib", "rename-key", "c:$(id>pwned):e"]),
     # files
@@ -102,6 +107,11 @@ CASES = [
     ("bibkeep check 'fold er/i\t", ["bibkeep", "check", "fold er/in.bib"]),
     ("bibkeep check '$(id>pwned)/d\t", ["bibkeep", "check", "$(id>pwned)/deep.bib"]),
     ("bibkeep check fo\tin\t", ["bibkeep", "check", "fold er/in.bib"]),
+    # aux files, and what comes after them
+    ("bibkeep cite one.bib --aux pa\t", ["bibkeep", "cite", "one.bib", "--aux", "paper.aux"]),
+    ("bibkeep extract one.bib --aux \\`\t", ["bibkeep", "extract", "one.bib", "--aux", "`id>pwned`.aux"]),
+    ("bibkeep labels --aux paper.aux on\t", ["bibkeep", "labels", "--aux", "paper.aux", "one.bib"]),
+    ("bibkeep json --aux paper.aux keys.bib x\t", ["bibkeep", "json", "--aux", "paper.aux", "keys.bib", "x$(id>pwned)"]),
     # keys of files whatever their names are
     ("bibkeep show s\\ p\\'a\\\"ce.bib ke\t", ["bibkeep", "show", "s p'a\"ce.bib", "key1"]),
     ("bibkeep show '`id>pwned`.bib' ke\t", ["bibkeep", "show", "`id>pwned`.bib", "key1"]),

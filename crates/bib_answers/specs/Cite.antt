@@ -1,5 +1,5 @@
 -- `cite`: the entries that a list of keys cites.
-use Rattle.std.specs.Prelude.{ℕ, ◌≡◌, ◌==◌, List, [], ◌++◌, Option, if◌then◌else◌, slice_index_or, codes}
+use Rattle.std.specs.Prelude.{ℕ, ◌≡◌, ◌==◌, Bool, List, [], ◌∷◌, ◌++◌, Option, if◌then◌else◌, slice_index_or, codes}
 use Rattle.std.specs.List.{flat_map, list_any}
 use Rattle.std.specs.Option.{option_map_or}
 use Rattle.bib_spec.specs.Text.{Text}
@@ -41,8 +41,13 @@ unknown_line keys place = codes "? " ++ (slice_index_or keys place [] ++ codes "
 abbrev pub listed_lines : List EntryTexts → List ℕ → Text
 listed_lines entries list = flat_map (listed_line entries list) list
 
+-- the status of `cite` if the keys at these positions find no entry: with `--strict` it is 1 if there is one of them (dialect)
+abbrev pub cite_status : Bool → List ℕ → ℕ
+cite_status strict [] = 0
+cite_status strict (position ∷ more) = if strict then 1 else 0
+
 -- `cite F KEY..`: the entries listed, and then the keys that find none; a parent is listed too if `min` listed entries refer to it (dialect)
-abbrev pub cite_answer : List Text → ℕ → Reading → Answer
-cite_answer keys min db =
+abbrev pub cite_answer : Bool → List Text → ℕ → Reading → Answer
+cite_answer strict keys min db =
     let entries = entries_of db in
-    answer_of (listed_lines entries (listed entries keys min) ++ flat_map (unknown_line keys) (unknown entries keys)) [] 0
+    answer_of (listed_lines entries (listed entries keys min) ++ flat_map (unknown_line keys) (unknown entries keys)) [] (cite_status strict (unknown entries keys))

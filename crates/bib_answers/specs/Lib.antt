@@ -16,6 +16,7 @@ pub mod Cited
 pub mod Labels
 pub mod Names
 pub mod NewKeys
+pub mod Extract
 pub mod Positions
 pub mod Lint
 pub mod FindingLines

@@ -28,3 +28,11 @@ refusal_line kind place = placed_line kind (fault_name kind) place
 -- no entry has the key (dialect)
 abbrev pub no_such_entry_line : Text
 no_such_entry_line = codes "bibkeep: 11 NoSuchEntry\n"
+
+-- no entry has this key, which is named (dialect)
+abbrev pub no_such_entry_in : Text → Text
+no_such_entry_in key = codes "bibkeep: 11 NoSuchEntry in " ++ (key ++ codes "\n")
+
+-- what would be written is longer than a file may be (dialect)
+abbrev pub too_long_line : Text
+too_long_line = codes "bibkeep: 9 FileTooLong\n"

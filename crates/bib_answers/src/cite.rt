@@ -6,34 +6,43 @@ ghost use Rattle.std.specs.Option.{option_map_or};
 ghost use Rattle.bib_spec.specs.Records.{entries_of, parent};
 ghost use Rattle.bib_store.specs.Readings.{OfReading, IsEntryNumber};
 ghost use Rattle.bib_answers.specs.Opened.{AnswersFile};
-ghost use Rattle.bib_answers.specs.Cite.{IsKeyed, parent_bytes, line_bytes, with_listed, listed_line, listed_lines, unknown_line, cite_answer};
+ghost use Rattle.bib_answers.specs.Cite.{IsKeyed, parent_bytes, line_bytes, with_listed, listed_line, listed_lines, unknown_line, cite_answer, cite_status};
+ghost use Rattle.bib_answers.specs.Outcome.{answer_of};
 ghost use Rattle.bib_answers.specs.Marks.{AreMarks, AreEntryNumbers, ArePlaces};
 
-use crate::answers::{Answer, done};
+use crate::answers::{Answer, outcome_of};
 use crate::lines::add_all;
 use crate::listing::{Keyed, Line, Listing};
 use crate::opening::answer_file;
 use bib_scan::Text;
 use bib_store::{Database, Paged};
+use bib_words::status;
 use std::alloc::{AllocError, Global};
 
 /// The entries that the keys cite, and the keys that find none. A parent that at least `min` listed entries refer to is listed
-/// too.
+/// too. If `strict`, the status is 1 if a key finds none.
 pub fn answer_cite(
     alloc: Global,
     file: Vec<u8>,
     keys: &[Text],
     min: u32,
+    strict: bool,
 ) -> Result<Answer, AllocError>
     requires { 1 ≤ min }
-    ensures { IfOk result (AnswersFile (cite_answer keys.now min) file.items) }
+    ensures { IfOk result (AnswersFile (cite_answer strict keys.now min) file.items) }
 {
-    answer_file(alloc, file, |db| cite(alloc, db, keys, min))
+    answer_file(alloc, file, |db| cite(alloc, db, keys, min, strict))
 }
 
-fn cite(alloc: Global, db: &Database<Paged>, keys: &[Text], min: u32) -> Result<Answer, AllocError>
+fn cite(
+    alloc: Global,
+    db: &Database<Paged>,
+    keys: &[Text],
+    min: u32,
+    strict: bool,
+) -> Result<Answer, AllocError>
     requires { 1 ≤ min }
-    ensures { IfOk result (λ answer. OfReading db.now (λ r. answer ≡ cite_answer keys.now min r)) }
+    ensures { IfOk result (λ answer. OfReading db.now (λ r. answer ≡ cite_answer strict keys.now min r)) }
 {
     let Ok(cited) = db.cited(keys, min) else {
         return Err(AllocError);
@@ -41,7 +50,27 @@ fn cite(alloc: Global, db: &Database<Paged>, keys: &[Text], min: u32) -> Result<
     db.opens();
     let mut out = listed_text(alloc, db, cited.listed.as_slice())?;
     add_unknown(&mut out, keys, cited.unknown.as_slice())?;
-    Ok(done(alloc, Text::from_vec(out)))
+    Ok(listed(alloc, Text::from_vec(out), status_of(strict, cited.unknown.as_slice())))
+}
+
+/// The answer with this list and this status, and no message.
+fn listed(alloc: Global, list: Text, status: u8) -> Answer
+    ensures { result ≡ answer_of list [] status }
+{
+    Answer {
+        output: list,
+        outcome: outcome_of(Text::empty(alloc), status),
+    }
+}
+
+/// The status, if the keys at these positions find no entry.
+fn status_of(strict: bool, unknown: &[usize]) -> u8
+    ensures { result ≡ cite_status strict unknown.now }
+{
+    match unknown {
+        [_, ..] if strict => status::REFUSED,
+        _ => status::DONE,
+    }
 }
 
 /// The key of entry `n`. It is taken from `last`, if that is entry `n`: the children of a parent are mostly together.

@@ -1,13 +1,17 @@
 //! What an answer says besides its output, a line each.
 
 ghost use Rattle.std.specs.Prelude.{◌≡◌, IfOk, codes};
-ghost use Rattle.bib_answers.specs.Messages.{fault_name, placed_line, refusal_line};
+ghost use Rattle.bib_answers.specs.Messages.{fault_name, placed_line, no_such_entry_in, refusal_line};
 
+use crate::lines::add_all;
 use bib_scan::{ReadFault, Text};
 use std::alloc::{AllocError, Global};
 
 /// The message that no entry has the key.
 pub const NO_SUCH_ENTRY: &[u8] = b"bibkeep: 11 NoSuchEntry\n";
+
+/// The message that what would be written is longer than a file may be.
+pub const TOO_LONG: &[u8] = b"bibkeep: 9 FileTooLong\n";
 
 /// `bibkeep: N Name at P`, a line.
 pub fn placed_line(alloc: Global, number: u8, name: &str, place: usize) -> Result<Text, AllocError>
@@ -15,6 +19,15 @@ pub fn placed_line(alloc: Global, number: u8, name: &str, place: usize) -> Resul
 {
     let line = format!(in alloc; "bibkeep: {} {} at {}\n", number, name, place)?;
     Ok(Text::from_vec(line.into_bytes()))
+}
+
+/// The message that no entry has this key, a line.
+pub fn no_such_entry_in(alloc: Global, key: &[u8]) -> Result<Text, AllocError>
+    ensures { IfOk result (λ line. line ≡ no_such_entry_in key.now) }
+{
+    let mut line = Vec::new(alloc);
+    add_all(&mut line, &[b"bibkeep: 11 NoSuchEntry in ", key, b"\n"])?;
+    Ok(Text::from_vec(line))
 }
 
 /// Why a file is not read, a line.

@@ -1,5 +1,5 @@
 -- The text and the status for an error.
-use Rattle.std.proofs.Common.{◌≡◌, List, true, refl, inl, inr}
+use Rattle.std.proofs.Common.{◌≡◌, ◌⊎◌, List, true, refl, inl, inr}
 use Rattle.clap.specs.Words.{Text, HasKind, fault_of, kind_of, is_simple_and_free}
 use Rattle.clap.specs.declared.error.Error.{Error}
 use Rattle.clap.specs.declared.error.ErrorKind.{ErrorKind}
@@ -8,7 +8,7 @@ use Rattle.clap.proofs.OnLiterals.{clap_on_literals}
 use Rattle.bib_command.specs.declared.usages.Usage.{Usage}
 use Rattle.bib_command.specs.CommandLine.{bibkeep}
 use Rattle.bib_command.specs.Usage as spec
-use Rattle.bib_command.specs.Usage.{no_memory, IsUsageOf, IsUsageFor, told}
+use Rattle.bib_command.specs.Usage.{no_memory, LackKeys, IsUsageOf, IsUsageFor, told}
 
 -- clap's exact matching covers the command line
 pub bibkeep_is_simple : is_simple_and_free bibkeep ≡ true
@@ -26,3 +26,8 @@ usage_of_memory kind usage (spec.memory is) memory = is
 pub usage_for : (words : List Text) (error : Error) (usage : Usage) → HasKind (fault_of bibkeep words) error → IsUsageOf (kind_of error) usage → IsUsageFor words usage
 usage_for words error usage (inl memory) of = spec.memory (usage_of_memory (kind_of error) usage of memory)
 usage_for words error usage (inr among) of = told (kind_of error) among of
+
+-- the usage of words that lack keys is a mistake, or memory ran out
+pub keyless_usage : (words : List Text) (usage : Usage) → LackKeys words → (usage.status ≡ 2) ⊎ (usage ≡ no_memory) → IsUsageFor words usage
+keyless_usage words usage lack (inl mistake) = spec.keyless lack mistake
+keyless_usage words usage lack (inr memory) = spec.memory memory

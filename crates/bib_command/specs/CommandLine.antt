@@ -9,7 +9,7 @@ use Rattle.clap.specs.Words.{App, Row, Rule, Text, all_of, one_of, subcommand_of
 use Rattle.clap.specs.Lexer.{usize_max}
 use Rattle.clap.specs.Simple.{on_top}
 use Rattle.clap.specs.declared.builder.ValueParser.TheVariants as parser
-use Rattle.clap.specs.declared.builder.ArgAction.TheVariants.{SetTrue}
+use Rattle.clap.specs.declared.builder.ArgAction.TheVariants.{Append, SetTrue}
 use Rattle.bib_words.specs.declared.commands.Command.{Command}
 
 -- ---- arguments
@@ -22,13 +22,17 @@ any_file = new_rule (codes "F")
 abbrev pub needed : Text → Rule
 needed id = record (new_rule id) { required = true }
 
--- `KEY..`: one or more
+-- `[KEY..]`: none or more
 abbrev pub keys : Rule
-keys = record (needed (codes "KEY")) { range = Some (record { start_inclusive = 1; end_inclusive = usize_max }) }
+keys = record (new_rule (codes "KEY")) { range = Some (record { start_inclusive = 1; end_inclusive = usize_max }) }
 
 -- `[WORD..]`: none or more
 abbrev pub edit_words : Rule
 edit_words = record (new_rule (codes "WORD")) { range = Some (record { start_inclusive = 1; end_inclusive = usize_max }) }
+
+-- `--aux AUX`, any number of times
+abbrev pub aux_files : Rule
+aux_files = record (new_rule (codes "AUX")) { long = Some (codes "aux"); action = Some Append }
 
 -- `--NAME`: an option that is given or not
 abbrev pub switch : Text → Rule
@@ -64,17 +68,21 @@ cat_line = with_rule (new_app (codes "cat")) any_file
 abbrev pub show_line : App
 show_line = with_rule (with_rule (over_file (codes "show")) (needed (codes "KEY"))) levels
 
--- `cite F [--min-crossrefs N] KEY..`
+-- a command over a file with keys, those of aux files among them: `NAME F [--aux AUX].. [KEY..]`
+abbrev pub cited_line : Text → App
+cited_line name = with_rule (with_rule (over_file name) keys) aux_files
+
+-- `cite F [--min-crossrefs N] [--aux AUX].. [--strict] [KEY..]`
 abbrev pub cite_line : App
-cite_line = with_rule (with_rule (over_file (codes "cite")) keys) (count (codes "min-crossrefs") (codes "2"))
+cite_line = with_rule (with_rule (cited_line (codes "cite")) (count (codes "min-crossrefs") (codes "2"))) (switch (codes "strict"))
 
 -- `entry F [--at] KEY..`
 abbrev pub entry_line : App
 entry_line = with_rule (with_rule (over_file (codes "entry")) keys) (switch (codes "at"))
 
--- `labels F [--depth D] KEY..`; the same for `json`
+-- `labels F [--depth D] [--aux AUX].. [KEY..]`; the same for `json`
 abbrev pub keys_line : Text → App
-keys_line name = with_rule (with_rule (over_file name) keys) levels
+keys_line name = with_rule (cited_line name) levels
 
 -- `names F [--depth D] KEY TEMPLATE`
 abbrev pub names_line : App
@@ -100,7 +108,7 @@ edit_line = with_rule (adding edit_or_print_line) (switch (codes "all-or-nothing
 abbrev pub steps_line : Text → App
 steps_line name = with_rule (with_rule (over_file name) (count (codes "steps") (codes "1"))) (switch (codes "print"))
 
--- `ris F [--depth D] [--dropped] KEY..`
+-- `ris F [--depth D] [--dropped] [--aux AUX].. [KEY..]`
 abbrev pub ris_line : App
 ris_line = with_rule (keys_line (codes "ris")) (switch (codes "dropped"))
 
@@ -143,7 +151,7 @@ bibkeep_edits = adds (adds (adds (adds (adds bibkeep_makes edit_line) (steps_lin
 
 -- the whole command line, `bibkeep COMMAND`
 abbrev pub bibkeep : App
-bibkeep = adds (adds (adds bibkeep_edits ris_line) import_line) explain_line
+bibkeep = adds (adds (adds (adds bibkeep_edits ris_line) (cited_line (codes "extract"))) import_line) explain_line
 
 -- ---- the command that clap's matches name
 
@@ -179,6 +187,7 @@ abbrev pub command_of : Text → List Row → Command
 command_of name rows = record {
   name = name;
   words = words_in rows;
+  aux = values (codes "AUX") rows;
   n = number rows;
   depth = depth rows;
   print = given (codes "print") rows;
@@ -187,6 +196,7 @@ command_of name rows = record {
   all_or_nothing = given (codes "all-or-nothing") rows;
   dropped = given (codes "dropped") rows;
   at = given (codes "at") rows;
+  strict = given (codes "strict") rows;
 }
 
 -- the words name this command by clap's exact matching

@@ -1,10 +1,12 @@
 -- The text and the status for words that name no command.
-use Rattle.std.specs.Prelude.{◌≡◌, ◌≢◌, List, []}
+use Rattle.std.specs.Prelude.{◌≡◌, ◌≢◌, ◌⊎◌, List, []}
 use Rattle.clap.specs.Words.{Text, IsAmong, fault_of}
 use Rattle.clap.specs.declared.error.ErrorKind.{ErrorKind}
 use Rattle.clap.specs.declared.error.ErrorKind.TheVariants.{DisplayHelp, DisplayVersion, OutOfMemory}
 use Rattle.bib_command.specs.declared.usages.Usage.{Usage}
-use Rattle.bib_command.specs.CommandLine.{bibkeep}
+use Rattle.bib_words.specs.declared.commands.Command.{Command}
+use Rattle.bib_words.specs.Command.{IsCommand}
+use Rattle.bib_command.specs.CommandLine.{bibkeep, IsCommandOf}
 
 -- the answer without a text, if memory runs out
 abbrev pub no_memory : Usage
@@ -17,7 +19,15 @@ pub data IsUsageOf (kind : ErrorKind) (usage : Usage) : Type 0 where
   mistake : kind ≢ DisplayHelp → kind ≢ DisplayVersion → kind ≢ OutOfMemory → usage.status ≡ 2 → IsUsageOf kind usage
   memory : usage ≡ no_memory → IsUsageOf kind usage
 
--- the text and the status for words that name no command: those for the first fault that clap's exact matching meets
+-- the words match, but they give a command over keys neither a key nor an aux file
+pub record LackKeys (words : List Text) : Type 0 where
+  pub command : Command
+  pub named : IsCommandOf words command
+  pub unknown : ¬ IsCommand command
+
+-- The text and the status for words that name no command: those for the first fault that clap's exact matching meets, or a mistake if
+-- the words match and lack keys.
 pub data IsUsageFor (words : List Text) (usage : Usage) : Type 0 where
   told : (kind : ErrorKind) → IsAmong kind (fault_of bibkeep words) → IsUsageOf kind usage → IsUsageFor words usage
+  keyless : LackKeys words → usage.status ≡ 2 → IsUsageFor words usage
   memory : usage ≡ no_memory → IsUsageFor words usage

@@ -2,7 +2,7 @@
 
 ghost use Rattle.std.specs.Prelude.{◌≡◌, false, codes};
 ghost use Rattle.clap.specs.Words.{rule_of};
-ghost use Rattle.bib_command.specs.CommandLine.{any_file, needed, keys, edit_words, switch, count, levels};
+ghost use Rattle.bib_command.specs.CommandLine.{any_file, needed, keys, aux_files, edit_words, switch, count, levels};
 
 use clap::{Arg, ArgAction, value_parser};
 use std::alloc::Global;
@@ -21,12 +21,25 @@ pub fn needed<'a>(alloc: Global, id: &'a str, help: &'a str) -> Arg<'a>
     Arg::new(alloc, id).required(true).help(help)
 }
 
-/// One key or more.
+/// Keys, if there are any.
 pub fn keys<'a>(alloc: Global) -> Arg<'a>
     ensures rule { rule_of result ≡ keys }
     ensures local { result.global ≡ false }
 {
-    needed(alloc, "KEY", "The keys of entries, or * alone for all").num_args(1..)
+    Arg::new(alloc, "KEY")
+        .num_args(1..)
+        .help("The keys of entries, or * alone for all")
+}
+
+/// `--aux`, any number of times.
+pub fn aux_files<'a>(alloc: Global) -> Arg<'a>
+    ensures rule { rule_of result ≡ aux_files }
+    ensures local { result.global ≡ false }
+{
+    Arg::new(alloc, "AUX")
+        .long("aux")
+        .action(ArgAction::Append)
+        .help("An aux file of LaTeX; the keys that it cites come after the KEYs")
 }
 
 /// The words of an edit, if there are any.

@@ -3,10 +3,10 @@
 ghost use Rattle.std.specs.Prelude.{◌≡◌, IfOk, codes};
 ghost use Rattle.clap.specs.Words.{App, new_app};
 ghost use Rattle.bib_command.specs.Lines.{Reads};
-ghost use Rattle.bib_command.specs.CommandLine.{adds, over_file, cat_line, show_line, entry_line, cite_line, edit_or_print_line, keys_line, names_line, newkeys_line, edit_line, steps_line, ris_line, import_line, explain_line, bibkeep_top, bibkeep_shows, bibkeep_makes, bibkeep_edits, bibkeep};
+ghost use Rattle.bib_command.specs.CommandLine.{adds, over_file, cat_line, show_line, cited_line, entry_line, cite_line, edit_or_print_line, keys_line, names_line, newkeys_line, edit_line, steps_line, ris_line, import_line, explain_line, bibkeep_top, bibkeep_shows, bibkeep_makes, bibkeep_edits, bibkeep};
 
 use crate::arguments::{
-    any_file, count, edit_words, hints, keys, levels, needed, new_journal, no_journal, print,
+    any_file, aux_files, count, edit_words, hints, keys, levels, needed, new_journal, no_journal, print,
     switch,
 };
 use clap::Command;
@@ -16,11 +16,12 @@ use std::alloc::{AllocError, Global};
 pub fn command_line<'a>(alloc: Global) -> Result<Command<'a>, AllocError>
     ensures { IfOk result (Reads bibkeep) }
 {
-    adds(
+    let shared = adds(
         alloc,
-        adds(alloc, adds(alloc, edits(alloc), ris(alloc)), import(alloc)),
-        explain(alloc),
-    )
+        adds(alloc, adds(alloc, edits(alloc), ris(alloc)), extract(alloc)),
+        import(alloc),
+    );
+    adds(alloc, shared, explain(alloc))
 }
 
 /// With the commands that change a file, and those over its journal.
@@ -183,7 +184,7 @@ Examples:
 fn cite<'a>(alloc: Global) -> Result<Command<'a>, AllocError>
     ensures { IfOk result (Reads cite_line) }
 {
-    over_file(
+    over_cited(
         alloc,
         "cite",
         "Lists the entries that a bibliography for these keys contains",
@@ -193,14 +194,19 @@ A parent that at least N cited entries refer to is listed too. Unknown keys come
 Examples:
   bibkeep cite refs.bib knuth86 lamport86
   bibkeep cite refs.bib --min-crossrefs 3 knuth86 lamport86
-  bibkeep cite refs.bib '*'   # every entry",
+  bibkeep cite refs.bib '*'   # every entry
+  bibkeep cite refs.bib --strict --aux paper.aux   # status 1 if the paper cites an unknown key",
     )?
-    .arg(keys(alloc))?
     .arg(count(
         alloc,
         "min-crossrefs",
         "2",
         "How many cited entries must refer to a parent so that it is listed too, from 1 to 65535",
+    ))?
+    .arg(switch(
+        alloc,
+        "strict",
+        "Ends with status 1 if a key is unknown",
     ))
 }
 
@@ -406,6 +412,24 @@ Examples:
     ))
 }
 
+fn extract<'a>(alloc: Global) -> Result<Command<'a>, AllocError>
+    ensures { IfOk result (Reads (cited_line (codes "extract"))) }
+{
+    over_cited(
+        alloc,
+        "extract",
+        "Prints the part of the file that these keys need, byte for byte",
+        "\
+It has the entries of the keys, all their parents, the preambles, and the macros that these use. It drops other entries,
+comments and text between items. Keys come from the command line and from the aux files of a document.
+
+Examples:
+  bibkeep extract refs.bib --aux paper.aux > paper.bib   # what a paper cites
+  bibkeep extract refs.bib knuth86 lamport86
+  bibkeep extract refs.bib '*'   # every entry",
+    )
+}
+
 fn import<'a>(alloc: Global) -> Result<Command<'a>, AllocError>
     ensures { IfOk result (Reads import_line) }
 {
@@ -453,9 +477,21 @@ fn over_keys<'a>(
 ) -> Result<Command<'a>, AllocError>
     ensures { IfOk result (Reads (keys_line name.entry.now)) }
 {
+    over_cited(alloc, name, about, more)?.arg(levels(alloc))
+}
+
+/// A command over a file that takes keys, those of aux files among them.
+fn over_cited<'a>(
+    alloc: Global,
+    name: &'a str,
+    about: &'a str,
+    more: &'a str,
+) -> Result<Command<'a>, AllocError>
+    ensures { IfOk result (Reads (cited_line name.entry.now)) }
+{
     over_file(alloc, name, about, more)?
         .arg(keys(alloc))?
-        .arg(levels(alloc))
+        .arg(aux_files(alloc))
 }
 
 /// A command over a file that takes a number of changes.

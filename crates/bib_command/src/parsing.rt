@@ -1,14 +1,14 @@
 //! The command that the words of the command line name.
 
-ghost use Rattle.std.specs.Prelude.{◌≡◌, ◌++◌, IfOk, IfErr, OnOk, map, string_bytes, [], true};
+ghost use Rattle.std.specs.Prelude.{◌≡◌, ◌⊎◌, ◌++◌, codes, IfOk, IfErr, OnOk, map, string_bytes, [], true};
 ghost use Rattle.clap.specs.Words.{fault_of, takes, rows_of, found_of};
 ghost use Rattle.bib_command.specs.CommandLine.{bibkeep, values, words_in, number, depth, given, command_of, IsCommandOf, asks_for_hints};
-ghost use Rattle.bib_command.specs.Usage.{no_memory, IsUsageFor};
+ghost use Rattle.bib_command.specs.Usage.{no_memory, LackKeys, IsUsageFor};
 ghost use Rattle.bib_words.specs.Command.{IsCommand};
 
 use crate::Usage;
 use crate::command_line::command_line;
-use crate::usages::{no_memory, usage_of};
+use crate::usages::{no_memory, usage_of, without_keys};
 use bib_text::{Seq, Text, copied};
 use bib_words::Command;
 use clap::ArgMatches;
@@ -30,8 +30,8 @@ pub fn parse(alloc: Global, words: &[String]) -> Result<Command, Usage>
     ensures accepted { OnOk result (fault_of bibkeep (map string_bytes words.now) ≡ []) }
     ensures err { IfErr result (IsUsageFor (map string_bytes words.now)) }
 
-    // Words that name a command are refused only if memory runs out.
-    ensures taken { takes bibkeep (map string_bytes words.now) ≡ true → IfErr result (λ usage. usage ≡ no_memory) }
+    // Words that match are refused only if they lack keys, or if memory runs out.
+    ensures taken { takes bibkeep (map string_bytes words.now) ≡ true → IfErr result (λ usage. LackKeys (map string_bytes words.now) ⊎ (usage ≡ no_memory)) }
 {
     match parse_request(alloc, words) {
         Ok(request) => Ok(request.command),
@@ -50,8 +50,8 @@ pub fn parse_request(alloc: Global, words: &[String]) -> Result<Request, Usage>
     ensures accepted { OnOk result (fault_of bibkeep (map string_bytes words.now) ≡ []) }
     ensures err { IfErr result (IsUsageFor (map string_bytes words.now)) }
 
-    // Words that name a command are refused only if memory runs out.
-    ensures taken { takes bibkeep (map string_bytes words.now) ≡ true → IfErr result (λ usage. usage ≡ no_memory) }
+    // Words that match are refused only if they lack keys, or if memory runs out.
+    ensures taken { takes bibkeep (map string_bytes words.now) ≡ true → IfErr result (λ usage. LackKeys (map string_bytes words.now) ⊎ (usage ≡ no_memory)) }
 {
     let Ok(command) = command_line(alloc) else {
         return Err(no_memory(alloc));
@@ -59,12 +59,18 @@ pub fn parse_request(alloc: Global, words: &[String]) -> Result<Request, Usage>
     match command.try_get_matches_from(words) {
         Ok(matches) => match matches.subcommand() {
             Some((name, inner)) => match command_of(alloc, name, inner) {
-                // clap has checked how many words the command takes, but its contract does not say so
-                Ok(command) if command.is_known() => Ok(Request {
-                    command,
-                    hints: is_given(inner, "hints"),
-                }),
-                _ => Err(no_memory(alloc)),
+                Ok(command) => {
+                    // the words match, so the command lacks nothing but keys
+                    if command.is_known() {
+                        Ok(Request {
+                            command,
+                            hints: is_given(inner, "hints"),
+                        })
+                    } else {
+                        Err(without_keys(alloc, command.name.as_slice()))
+                    }
+                }
+                Err(_) => Err(no_memory(alloc)),
             },
             None => unreachable!(),
         },
@@ -79,6 +85,7 @@ fn command_of(alloc: Global, name: &str, matches: &ArgMatches<'_>) -> Result<Com
     Ok(Command {
         name: copied(alloc, name.as_bytes())?,
         words: words_in(alloc, matches)?,
+        aux: aux_in(alloc, matches)?,
         n: number_of(matches),
         depth: depth_of(matches),
         print: is_given(matches, "print"),
@@ -87,6 +94,7 @@ fn command_of(alloc: Global, name: &str, matches: &ArgMatches<'_>) -> Result<Com
         all_or_nothing: is_given(matches, "all-or-nothing"),
         dropped: is_given(matches, "dropped"),
         at: is_given(matches, "at"),
+        strict: is_given(matches, "strict"),
     })
 }
 
@@ -101,6 +109,15 @@ fn words_in(alloc: Global, matches: &ArgMatches<'_>) -> Result<Seq<Text>, AllocE
     add_values(alloc, &mut words, matches, "WORD")?;
     add_values(alloc, &mut words, matches, "FAULT")?;
     Ok(Seq::from_vec(words))
+}
+
+/// The names of the aux files of a command, in order.
+fn aux_in(alloc: Global, matches: &ArgMatches<'_>) -> Result<Seq<Text>, AllocError>
+    ensures { IfOk result (λ aux. aux ≡ values (codes "AUX") (rows_of (found_of matches.now))) }
+{
+    let mut aux = Vec::new(alloc);
+    add_values(alloc, &mut aux, matches, "AUX")?;
+    Ok(Seq::from_vec(aux))
 }
 
 /// The number of a command, or 0 if it takes none.

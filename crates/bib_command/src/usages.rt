@@ -7,7 +7,7 @@ ghost use Rattle.bib_command.specs.Usage.{IsUsageOf, no_memory};
 use bib_text::Text;
 use bib_words::status;
 use clap::error::ErrorKind;
-use std::alloc::Global;
+use std::alloc::{AllocError, Global};
 
 /// Why the words give no command: a text for the user, and the status to end with. The status is 0 for help and the
 /// version, 2 for a mistake, and 4, with no text, if memory runs out.
@@ -36,6 +36,29 @@ pub fn usage_of(alloc: Global, error: &clap::Error) -> Usage
         },
         Err(_) => no_memory(alloc),
     }
+}
+
+/// The text and the status for the words of a command over keys that have neither a key nor an aux file.
+pub fn without_keys(alloc: Global, command: &[u8]) -> Usage
+    ensures { (result.status ≡ 2) ⊎ (result ≡ no_memory) }
+{
+    match keyless_text(alloc, command) {
+        Ok(text) => Usage {
+            text,
+            status: status::COMMAND_LINE,
+        },
+        Err(_) => no_memory(alloc),
+    }
+}
+
+fn keyless_text(alloc: Global, command: &[u8]) -> Result<Text, AllocError> {
+    let mut text = Vec::new(alloc);
+    text.extend_from_slice(
+        b"error: the following required arguments were not provided:\n  <KEY>...\n\nUsage: bibkeep ",
+    )?;
+    text.extend_from_slice(command)?;
+    text.extend_from_slice(b" <F> <KEY>...\n\nFor more information, try '--help'.\n")?;
+    Ok(Text::from_vec(text))
 }
 
 /// The answer without a text, when there is no memory to make one.

@@ -26,9 +26,9 @@ abbrev pub first_of : List ℕ → Option ℕ
 first_of [] = None
 first_of (n ∷ ns) = Some n
 
--- Why a file has no extract for these keys: the key at this position is the first that finds no entry, or the extract would be
--- longer than a file may be.
+-- Why a file has no extract for these keys: the key at this position is the first that finds no entry; or each key finds one, and the
+-- extract would be longer than a file may be.
 abbrev pub RefusesExtract : Text → List Text → ExtractFault → Type 0
 RefusesExtract file keys (NoSuchEntry position) = OfReading file (λ r. first_of (unknown (entries_of r) keys) ≡ Some position)
-RefusesExtract file keys FileTooLong = OfReading file (λ r. file_limit < length (bytes_of (extract_of r keys)))
+RefusesExtract file keys FileTooLong = OfReading file (λ r. (unknown (entries_of r) keys ≡ []) × (file_limit < length (bytes_of (extract_of r keys))))
 RefusesExtract file keys Memory = ⊤

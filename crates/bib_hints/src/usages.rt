@@ -57,6 +57,7 @@ fn takes_keys(command: &[u8]) -> bool {
         || command == b"labels".as_slice()
         || command == b"json".as_slice()
         || command == b"ris".as_slice()
+        || command == b"extract".as_slice()
 }
 
 /// How many words follow the command, without options.

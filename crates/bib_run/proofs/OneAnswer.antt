@@ -37,7 +37,7 @@ use Rattle.bib_run.specs.Shown.{kept_with}
 use Rattle.bib_run.specs.ImportAnswer.{import_fault_line, added_answer}
 use Rattle.bib_run.specs.Turns.{turned_line}
 use Rattle.bib_run.specs.Log.{log_text, journal_left}
-use Rattle.bib_words.specs.declared.verbs.Question.TheVariants.{Check, Show, Entry, Cite, Labels, Json, NewKeys, Ris}
+use Rattle.bib_words.specs.declared.verbs.Question.TheVariants.{Check, Show, Entry, Cite, Labels, Json, NewKeys, Ris, Extract}
 use Rattle.bib_words.specs.declared.verbs.Verb.{Verb}
 use Rattle.bib_words.specs.declared.verbs.Verb.TheVariants.{Asks, Cat, Lint, Names, Explain, Edit, Import, Undo, Redo, Log, Forget}
 use Rattle.bib_words.specs.Verbs.{verb_of}
@@ -354,6 +354,7 @@ explain_named name is =
     eq-true name (codes "explain")
     (last (bytes_eq name (codes "explain"))
     (skip (bytes_eq name (codes "import")) Import _ refl
+    (skip (bytes_eq name (codes "extract")) (Asks Extract) _ refl
     (skip (bytes_eq name (codes "ris")) (Asks Ris) _ refl
     (skip (bytes_eq name (codes "forget")) Forget _ refl
     (skip (bytes_eq name (codes "log")) Log _ refl

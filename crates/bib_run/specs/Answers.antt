@@ -4,7 +4,7 @@ use Rattle.bib_spec.specs.Text.{Text}
 use Rattle.bib_spec.specs.Reading.{Reading}
 use Rattle.bib_words.specs.declared.commands.Command.{Command}
 use Rattle.bib_words.specs.declared.verbs.Question.{Question}
-use Rattle.bib_words.specs.declared.verbs.Question.TheVariants.{Check, Show, Entry, Cite, Labels, Json, NewKeys, Ris}
+use Rattle.bib_words.specs.declared.verbs.Question.TheVariants.{Check, Show, Entry, Cite, Labels, Json, NewKeys, Ris, Extract}
 use Rattle.bib_words.specs.declared.verbs.Verb.{Verb}
 use Rattle.bib_words.specs.declared.verbs.Verb.TheVariants.{Asks, Cat, Lint, Names, Explain, Edit, Undo, Redo, Log, Forget, Import}
 use Rattle.bib_words.specs.Verbs.{verb_of}
@@ -18,6 +18,7 @@ use Rattle.bib_answers.specs.Cite.{cite_answer}
 use Rattle.bib_answers.specs.Labels.{labels_answer}
 use Rattle.bib_answers.specs.Json.{json_answer}
 use Rattle.bib_answers.specs.NewKeys.{newkeys_answer}
+use Rattle.bib_answers.specs.Extract.{extract_answer}
 use Rattle.bib_answers.specs.Lint.{IsLintAnswer}
 use Rattle.bib_run.specs.Explaining.{IsExplainAnswer}
 use Rattle.bib_run.specs.Ris.{ris_answer}
@@ -50,11 +51,12 @@ abbrev pub question_answer : Question → Command → Reading → Answer
 question_answer Check command = check_answer
 question_answer Show command = show_answer command.depth (key_word command)
 question_answer Entry command = entry_answer command.at (key_words command)
-question_answer Cite command = cite_answer (key_words command) command.n
+question_answer Cite command = cite_answer command.strict (key_words command) command.n
 question_answer Labels command = labels_answer command.depth (key_words command)
 question_answer Json command = json_answer command.depth (key_words command)
 question_answer NewKeys command = newkeys_answer command.depth
 question_answer Ris command = ris_answer command.dropped command.depth (key_words command)
+question_answer Extract command = extract_answer (key_words command)
 
 -- what `edit` answers: to a script, or to the words of one edit if words follow the file
 pub data IsEditsAnswer (command : Command) (file : Text) (journal : Option Text) (input : Text) (answer : Answer) : Type 0 where

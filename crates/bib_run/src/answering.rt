@@ -15,8 +15,8 @@ use crate::commands::ris::answer_ris;
 use crate::commands::turning::{answer_redo, answer_undo};
 use crate::reading::Sources;
 use bib_answers::{
-    Answer, Outcome, answer_cat, answer_check, answer_cite, answer_entry, answer_json,
-    answer_labels, answer_lint, answer_names, answer_newkeys, answer_show, outcome_of,
+    Answer, Outcome, answer_cat, answer_check, answer_cite, answer_entry, answer_extract,
+    answer_json, answer_labels, answer_lint, answer_names, answer_newkeys, answer_show, outcome_of,
 };
 use bib_scan::Text;
 use bib_words::{Command, Question, Verb};
@@ -188,7 +188,10 @@ fn answer_question(
         Question::Check => answer_check(alloc, file),
         Question::Show => answer_show(alloc, file, word(command, 1), depth),
         Question::Entry => answer_entry(alloc, file, words_after_file(command), command.at),
-        Question::Cite => answer_cite(alloc, file, words_after_file(command), n),
+        Question::Cite => {
+            let keys = words_after_file(command);
+            answer_cite(alloc, file, keys, n, command.strict)
+        }
         Question::Labels => answer_labels(alloc, file, words_after_file(command), depth),
         Question::Json => answer_json(alloc, file, words_after_file(command), depth),
         Question::NewKeys => answer_newkeys(alloc, file, depth),
@@ -196,6 +199,7 @@ fn answer_question(
             let keys = words_after_file(command);
             answer_ris(alloc, file, keys, depth, command.dropped)
         }
+        Question::Extract => answer_extract(alloc, file, words_after_file(command)),
     }
 }
 

@@ -26,4 +26,5 @@ pub use laws::{
 pub use messages::{READ_FAULT, WRITE_FAULT};
 pub use reading::{Sources, read_sources};
 pub use sink::write_whole;
+pub use source::{SourceFault, read_up_to};
 pub use writing::write_answer;

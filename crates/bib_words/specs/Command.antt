@@ -1,10 +1,11 @@
 -- Which commands there are, and which arguments, numbers and options each takes.
-use Rattle.std.specs.Prelude.{◌≡◌, ◌≤◌, ◌&&◌, ℕ, Bool, true, false, not, length, IfSome, IsSomeAnd}
+use Rattle.std.specs.Prelude.{◌≡◌, ◌≤◌, ◌&&◌, ℕ, Bool, true, false, not, if◌then◌else◌, List, [], ◌∷◌, length, IfSome, IsSomeAnd}
+use Rattle.bib_spec.specs.Text.{Text}
 use Rattle.bib_spec.specs.Records.{depth_limit}
 use Rattle.bib_words.specs.declared.commands.Command.{Command}
 use Rattle.bib_words.specs.declared.verbs.Shape.{Shape}
 use Rattle.bib_words.specs.declared.verbs.Verb.{Verb}
-use Rattle.bib_words.specs.Verbs.{verb_of, shape, adds_change, makes_file, reads_journal, takes_input, takes_dropped, takes_at, takes_scripts}
+use Rattle.bib_words.specs.Verbs.{verb_of, shape, adds_change, makes_file, reads_journal, takes_input, takes_dropped, takes_at, takes_scripts, takes_strict}
 
 -- the greatest number that a command takes (dialect)
 abbrev pub number_limit : ℕ
@@ -15,15 +16,25 @@ pub data IsNumber (taken : Bool) (limit n : ℕ) : Type 0 where
   given : taken ≡ true → 1 ≤ n → n ≤ limit → IsNumber taken limit n
   none : taken ≡ false → n ≡ 0 → IsNumber taken limit n
 
--- the command has as many arguments as the shape takes, and the number and the depth that it takes
+-- the list has a member
+abbrev pub has_any : List Text → Bool
+has_any [] = false
+has_any (text ∷ texts) = true
+
+-- how many arguments a command of this shape needs: the file alone, if aux files are named that cite its keys
+abbrev pub least_words : Shape → List Text → ℕ
+least_words shape aux = if shape.aux && has_any aux then 1 else shape.least
+
+-- the command has as many arguments as the shape takes, and the number, the depth and the aux files that it takes
 pub record HasItsWords (shape : Shape) (c : Command) : Type 0 where
-  pub least : shape.least ≤ length c.words
+  pub least : least_words shape c.aux ≤ length c.words
   pub most : IfSome shape.most (λ most. length c.words ≤ most)
   pub number : IsNumber shape.number number_limit c.n
   pub depth : IsNumber shape.depth depth_limit c.depth
+  pub aux : has_any c.aux ≡ true → shape.aux ≡ true
 
 -- the command takes each option that is given: `--print` if it makes a file, `--new-journal` and `--no-journal` if it adds a
--- change, `--all-or-nothing` if it takes scripts, `--dropped` if it is `ris`, `--at` if it is `entry` (dialect)
+-- change, `--all-or-nothing` if it takes scripts, `--dropped` if it is `ris`, `--at` if it is `entry`, `--strict` if it is `cite` (dialect)
 pub record HasItsOptions (verb : Verb) (c : Command) : Type 0 where
   pub print : c.print ≡ true → makes_file verb ≡ true
   pub new_journal : c.new_journal ≡ true → adds_change verb ≡ true
@@ -31,6 +42,7 @@ pub record HasItsOptions (verb : Verb) (c : Command) : Type 0 where
   pub all_or_nothing : c.all_or_nothing ≡ true → takes_scripts verb ≡ true
   pub dropped : c.dropped ≡ true → takes_dropped verb ≡ true
   pub at : c.at ≡ true → takes_at verb ≡ true
+  pub strict : c.strict ≡ true → takes_strict verb ≡ true
 
 -- this command of the program, with its words and options
 pub record IsCommandOf (verb : Verb) (c : Command) : Type 0 where

@@ -2,7 +2,7 @@
 use Rattle.std.specs.Prelude.{ℕ, Bool, true, false, ◌==◌, if◌then◌else◌, Option, Some, None, bytes_eq, codes}
 use Rattle.bib_spec.specs.Text.{Text}
 use Rattle.bib_words.specs.declared.verbs.Question.{Question}
-use Rattle.bib_words.specs.declared.verbs.Question.TheVariants.{Check, Show, Entry, Cite, Labels, Json, NewKeys, Ris}
+use Rattle.bib_words.specs.declared.verbs.Question.TheVariants.{Check, Show, Entry, Cite, Labels, Json, NewKeys, Ris, Extract}
 use Rattle.bib_words.specs.declared.verbs.Verb.{Verb}
 use Rattle.bib_words.specs.declared.verbs.Verb.TheVariants.{Asks, Cat, Lint, Names, Explain, Edit, Undo, Redo, Log, Forget, Import}
 use Rattle.bib_words.specs.declared.verbs.Shape.{Shape}
@@ -26,6 +26,7 @@ verb_of name =
     else if bytes_eq name (codes "log") then Some Log
     else if bytes_eq name (codes "forget") then Some Forget
     else if bytes_eq name (codes "ris") then Some (Asks Ris)
+    else if bytes_eq name (codes "extract") then Some (Asks Extract)
     else if bytes_eq name (codes "import") then Some Import
     else if bytes_eq name (codes "explain") then Some Explain
     else None
@@ -34,32 +35,33 @@ verb_of name =
 
 -- one argument and nothing else: `check F`
 abbrev pub alone : Shape
-alone = record { least = 1; most = Some 1; number = false; depth = false }
+alone = record { least = 1; most = Some 1; number = false; depth = false; aux = false }
 
 -- a file and a number: `undo F`
 abbrev pub with_number : Shape
 with_number = record alone { number = true }
 
--- a file, one key or more, and a depth: `labels F KEY..`
+-- a file, one key or more, aux files that cite more, and a depth: `labels F KEY..`
 abbrev pub with_keys : Shape
-with_keys = record { least = 2; most = None; number = false; depth = true }
+with_keys = record { least = 2; most = None; number = false; depth = true; aux = true }
 
 -- what a command takes that answers what its file says
 abbrev pub question_shape : Question → Shape
 question_shape Check = alone
-question_shape Show = record with_keys { most = Some 2 }
-question_shape Entry = record with_keys { depth = false }
+question_shape Show = record with_keys { most = Some 2; aux = false }
+question_shape Entry = record with_keys { depth = false; aux = false }
 question_shape Cite = record with_keys { number = true; depth = false }
 question_shape Labels = with_keys
 question_shape Json = with_keys
 question_shape NewKeys = record alone { depth = true }
 question_shape Ris = with_keys
+question_shape Extract = record with_keys { depth = false }
 
 -- what a command takes
 abbrev pub shape : Verb → Shape
 shape (Asks question) = question_shape question
 shape Cat = record alone { least = 0 }
-shape Names = record { least = 3; most = Some 3; number = false; depth = true }
+shape Names = record { least = 3; most = Some 3; number = false; depth = true; aux = false }
 shape Edit = record alone { most = None }
 shape Undo = with_number
 shape Redo = with_number
@@ -105,3 +107,8 @@ takes_at _ = false
 abbrev pub takes_scripts : Verb → Bool
 takes_scripts Edit = true
 takes_scripts _ = false
+
+-- the commands that take `--strict`
+abbrev pub takes_strict : Verb → Bool
+takes_strict (Asks Cite) = true
+takes_strict _ = false

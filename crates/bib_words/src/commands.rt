@@ -9,13 +9,14 @@ const NUMBER_LIMIT: u32 = 65_535;
 /// The greatest depth of the records that a command shows.
 const DEPTH_LIMIT: u8 = 8;
 
-/// A command: its name; its arguments in order, the file first if there is one; its number, and the depth of the records
-/// that it shows, each 0 if the command takes none; and whether its options `--print`, `--new-journal`, `--no-journal`,
-/// `--all-or-nothing`, `--dropped` and `--at` were given.
+/// A command: its name; its arguments in order, the file first if there is one; the names of the aux files that cite more
+/// keys; its number, and the depth of the records that it shows, each 0 if the command takes none; and whether its options
+/// `--print`, `--new-journal`, `--no-journal`, `--all-or-nothing`, `--dropped`, `--at` and `--strict` were given.
 #[derive(Drop)]
 pub struct Command {
     pub name: Text,
     pub words: Seq<Text>,
+    pub aux: Seq<Text>,
     pub n: u32,
     pub depth: u8,
     pub print: bool,
@@ -24,6 +25,7 @@ pub struct Command {
     pub all_or_nothing: bool,
     pub dropped: bool,
     pub at: bool,
+    pub strict: bool,
 }
 
 impl Command {
@@ -106,22 +108,42 @@ impl Command {
             && (!self.all_or_nothing || verb.takes_scripts())
             && (!self.dropped || verb.takes_dropped())
             && (!self.at || verb.takes_at())
+            && (!self.strict || verb.takes_strict())
     }
 
-    /// Whether the command has as many arguments as this shape takes, and the number and the depth that it takes.
+    /// Whether the command has as many arguments as this shape takes, and the number, the depth and the aux files that it
+    /// takes.
     fn has_its_words(&self, shape: Shape) -> bool
         ensures { IsTrue result ↔ HasItsWords shape self.now }
     {
         let count = self.words.as_slice().len();
-        count >= shape.least
+        count >= least_words(shape, self.aux.as_slice())
+            && (!has_any(self.aux.as_slice()) || shape.aux)
             && is_at_most(count, shape.most)
             && is_number(shape.number, self.n, NUMBER_LIMIT)
             && is_number(shape.depth, self.depth as u32, DEPTH_LIMIT as u32)
     }
 }
 
-ghost use Rattle.std.specs.Prelude.{◌↔◌, ◌≤◌, IsTrue, IfSome};
-ghost use Rattle.bib_words.specs.Command.{IsNumber};
+ghost use Rattle.std.specs.Prelude.{◌≡◌, ◌↔◌, ◌≤◌, IsTrue, IfSome};
+ghost use Rattle.bib_words.specs.Command.{IsNumber, has_any, least_words};
+
+/// Whether the list has a member.
+fn has_any(texts: &[Text]) -> bool
+    ensures { result ≡ has_any texts.now }
+{
+    !texts.is_empty()
+}
+
+/// How many arguments a command of this shape needs: the file alone, if aux files are named that cite its keys.
+fn least_words(shape: Shape, aux: &[Text]) -> usize
+    ensures { result ≡ least_words shape aux.now }
+{
+    if shape.aux && has_any(aux) {
+        return 1;
+    }
+    shape.least
+}
 
 /// Whether this many are not more than the most, if there is one.
 fn is_at_most(count: usize, most: Option<usize>) -> bool

@@ -1,7 +1,7 @@
 //! The commands as data: what each takes and reads.
 
 ghost use Rattle.std.specs.Prelude.{◌≡◌, bytes_eq};
-ghost use Rattle.bib_words.specs.Verbs.{adds_change, makes_file, reads_journal, takes_input, takes_dropped, takes_at, takes_scripts, question_shape, shape, verb_of};
+ghost use Rattle.bib_words.specs.Verbs.{adds_change, makes_file, reads_journal, takes_input, takes_dropped, takes_at, takes_scripts, takes_strict, question_shape, shape, verb_of};
 
 /// A command that answers what its file says, and reads nothing else.
 #[derive(Clone, Copy, Debug, PartialEq, Eq)]
@@ -14,6 +14,7 @@ pub enum Question {
     Json,
     NewKeys,
     Ris,
+    Extract,
 }
 
 /// A command of the program.
@@ -32,13 +33,14 @@ pub enum Verb {
     Import,
 }
 
-/// What a command takes: how many arguments, the file among them, and whether a number or a depth.
+/// What a command takes: how many arguments, the file among them, and whether a number, a depth, or aux files in place of keys.
 #[derive(Clone, Copy)]
 pub struct Shape {
     pub least: usize,
     pub most: Option<usize>,
     pub number: bool,
     pub depth: bool,
+    pub aux: bool,
 }
 
 /// One argument and nothing else: `check F`.
@@ -47,14 +49,16 @@ const ALONE: Shape = Shape {
     most: Some(1),
     number: false,
     depth: false,
+    aux: false,
 };
 
-/// A file, one key or more, and a depth: `labels F KEY..`.
+/// A file, one key or more, aux files that cite more, and a depth: `labels F KEY..`.
 const KEYS: Shape = Shape {
     least: 2,
     most: None,
     number: false,
     depth: true,
+    aux: true,
 };
 
 /// Whether the name is this word, byte for byte.
@@ -116,6 +120,9 @@ impl Verb {
         }
         if is(name, b"ris") {
             return Some(Verb::Asks(Question::Ris));
+        }
+        if is(name, b"extract") {
+            return Some(Verb::Asks(Question::Extract));
         }
         if is(name, b"import") {
             return Some(Verb::Import);
@@ -179,6 +186,13 @@ impl Verb {
         matches!(self, Verb::Edit)
     }
 
+    /// Whether the command takes `--strict`.
+    pub fn takes_strict(self) -> bool
+        ensures { result ≡ takes_strict self }
+    {
+        matches!(self, Verb::Asks(Question::Cite))
+    }
+
     /// What the command takes.
     pub(crate) fn shape(self) -> Shape
         ensures { result ≡ shape self }
@@ -189,6 +203,7 @@ impl Verb {
             Verb::Names => Shape {
                 least: 3,
                 most: Some(3),
+                aux: false,
                 ..KEYS
             },
             Verb::Edit => Shape {
@@ -213,10 +228,12 @@ impl Question {
             Question::Check => ALONE,
             Question::Show => Shape {
                 most: Some(2),
+                aux: false,
                 ..KEYS
             },
             Question::Entry => Shape {
                 depth: false,
+                aux: false,
                 ..KEYS
             },
             Question::Cite => Shape {
@@ -225,6 +242,10 @@ impl Question {
                 ..KEYS
             },
             Question::Labels | Question::Json | Question::Ris => KEYS,
+            Question::Extract => Shape {
+                depth: false,
+                ..KEYS
+            },
             Question::NewKeys => Shape {
                 depth: true,
                 ..ALONE

@@ -60,6 +60,37 @@ pub fn end_unopened<E: Write>(errors: &mut Tap<E>, error: &io::Error) -> u8
     end(errors, READ_FAULT, status::FAULT)
 }
 
+/// Memory ran out.
+pub fn end_without_memory<E: Write>(errors: &mut Tap<E>) -> u8
+    ensures { result ≡ 4 }
+{
+    end(errors, MEMORY, status::MEMORY)
+}
+
+/// The aux file at this path is longer than it may be.
+pub fn end_long_aux<E: Write>(errors: &mut Tap<E>, path: &[u8]) -> u8
+    ensures { result ≡ 1 }
+{
+    end_in(errors, b"bibkeep: 9 FileTooLong at 16777216", path, status::REFUSED)
+}
+
+/// The aux file at this path could not be read.
+pub fn end_unread_aux<E: Write>(errors: &mut Tap<E>, path: &[u8]) -> u8
+    ensures { result ≡ 3 }
+{
+    end_in(errors, b"bibkeep: read fault", path, status::FAULT)
+}
+
+/// Writes a message that names a file, and returns the status.
+fn end_in<E: Write>(errors: &mut Tap<E>, text: &[u8], path: &[u8], status: u8) -> u8
+    ensures { result ≡ status }
+{
+    let _told = write_whole(errors, text);
+    let _named = write_whole(errors, b" in ");
+    let _path = write_whole(errors, path);
+    end(errors, b"\n", status)
+}
+
 /// No command has this many words.
 pub fn end_unknown<E: Write>(errors: &mut Tap<E>) -> u8
     ensures { result ≡ 2 }

@@ -9,13 +9,16 @@ ghost use Rattle.bib_taps.specs.Taps.{tap_inner, has_failed};
 ghost use Rattle.bib_streams.specs.Heard.{heard_inner, kept_inner};
 ghost use Rattle.bib_run.specs.Runs.{fresh, view_of};
 ghost use Rattle.bibkeep.specs.Ending.{RanHere, RanAndFinished, RanAlone, EndsFor};
+ghost use Rattle.bibkeep.specs.Citing.{EndsCiting};
 
+mod aux_files;
 mod disk;
 mod endings;
 mod opening;
 mod saying;
 mod storing;
 
+use aux_files::{AuxFault, cited_in, citing};
 use bib_command::{Request, parse_request};
 use bib_files::{Folder, Paths};
 use bib_run::{Tap, WRITE_FAULT, run};
@@ -23,7 +26,8 @@ use bib_streams::{Heard, Kept};
 use bib_words::{Command, status};
 use disk::Disk;
 use endings::{
-    end, end_run, end_unknown, end_unopened, end_usage, end_without_words, errors, output,
+    end, end_long_aux, end_run, end_unknown, end_unopened, end_unread_aux, end_usage,
+    end_without_memory, end_without_words, errors, output,
 };
 use opening::{Journal, Opened, expect_room, open, stores};
 use saying::{Ran, Streams, invite, may_hint, say_hints, say_trouble, say_unstored, say_usage};
@@ -49,13 +53,46 @@ fn answer_words(rt: &HostRuntime, alloc: Global) -> u8 {
         Err(error) => return end_without_words(&mut errors(rt), &error.into()),
     };
     match parse_request(alloc, words.as_slice()) {
-        Ok(Request { command, hints }) => perform(rt, alloc, &command, may_hint(rt, hints)),
+        Ok(Request { command, hints }) => answer(rt, alloc, command, may_hint(rt, hints)),
         Err(usage) => {
             let status = end_usage(&mut output(rt, false), &mut errors(rt), &usage);
             say_usage(rt, alloc, words.as_slice(), status);
             status
         }
     }
+}
+
+/// Runs the command with the keys that its aux files cite, if it names any.
+fn answer(rt: &HostRuntime, alloc: Global, command: Command, hints: bool) -> u8
+    requires { IsCommand command }
+    ensures { EndsCiting command result }
+{
+    if command.aux.as_slice().is_empty() {
+        return perform(rt, alloc, &command, hints);
+    }
+    match cited_in(rt, alloc, command.aux.as_slice()) {
+        Ok(cited) => match citing(alloc, command, cited) {
+            Ok(command) => perform_known(rt, alloc, &command, hints),
+            Err(_) => end_without_memory(&mut errors(rt)),
+        },
+        Err(AuxFault::Memory) => end_without_memory(&mut errors(rt)),
+        Err(AuxFault::TooLong(path)) => end_long_aux(&mut errors(rt), path.as_slice()),
+        Err(AuxFault::Unread(path, kind)) => {
+            let status = end_unread_aux(&mut errors(rt), path.as_slice());
+            say_trouble(rt, alloc, &command, hints, path.as_slice(), kind);
+            status
+        }
+    }
+}
+
+/// Runs a command that the program has: one over keys takes any number of them.
+fn perform_known(rt: &HostRuntime, alloc: Global, command: &Command, hints: bool) -> u8
+    ensures { EndsFor command.now result }
+{
+    if command.is_known() {
+        return perform(rt, alloc, command, hints);
+    }
+    end_unknown(&mut errors(rt))
 }
 
 /// Runs the command over the file that it names and its journal, or over standard input if it names no file; `explain`

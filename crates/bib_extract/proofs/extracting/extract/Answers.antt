@@ -54,5 +54,8 @@ returns-clause-opens g c =
 pub returns-clause-fault : goal.returns-clause-fault
 returns-clause-fault g c =
     refused_if c.args.db.now c.args.keys.now c.in_ok-text.text c.fitting.result c.fitting.ensures.fault
-    (λ long r reads. subst (λ (t : Text). file_limit < length t)
-    (written c.in_ok-text.text c.as_slice.result.now (kept r c.args.keys.now) r.items (c.in_ok-text.ensures r reads) (c.as_slice.ensures.value ∙ c.in_ok-marks.ensures.marks r reads)) long)
+    (λ long r reads. (
+      c.in_ok-marks.ensures.known r reads,
+      subst (λ (t : Text). file_limit < length t)
+      (written c.in_ok-text.text c.as_slice.result.now (kept r c.args.keys.now) r.items (c.in_ok-text.ensures r reads) (c.as_slice.ensures.value ∙ c.in_ok-marks.ensures.marks r reads)) long,
+    ))

@@ -1,0 +1,21 @@
+-- How a command ends that has the keys of aux files.
+use Rattle.std.specs.Prelude.{ℕ, ◌≡◌, List, ◌++◌, take, drop}
+use Rattle.bib_spec.specs.Text.{Text}
+use Rattle.aux_text.specs.Citations.{with_cited}
+use Rattle.bib_words.specs.declared.commands.Command.{Command}
+use Rattle.bib_words.specs.Command.{has_any}
+use Rattle.bibkeep.specs.Ending.{EndsFor}
+use Rattle.std.specs.Prelude.{false}
+
+-- the command with these keys after its own; if `*` is among them, it is the only key
+abbrev pub citing : Command → List Text → Command
+citing command cited = record command { words = take 1 command.words ++ with_cited (drop 1 command.words) cited }
+
+-- The program ends with this status for this command: as for the command alone, if it names no aux file; or as for the command with the
+-- keys that its aux files cite; or with 1 if an aux file is too long, with 3 if one could not be read, and with 4 if memory was refused.
+pub data EndsCiting (command : Command) (status : ℕ) : Type 0 where
+  alone : has_any command.aux ≡ false → EndsFor command status → EndsCiting command status
+  cited : (keys : List Text) → EndsFor (citing command keys) status → EndsCiting command status
+  too_long : status ≡ 1 → EndsCiting command status
+  unread : status ≡ 3 → EndsCiting command status
+  no_memory : status ≡ 4 → EndsCiting command status

@@ -1,0 +1,168 @@
+//! The keys that the aux files of a document cite.
+
+ghost use Rattle.std.specs.Prelude.{◌≡◌, IfOk};
+ghost use Rattle.bibkeep.specs.Citing.{citing};
+
+use crate::disk::found;
+use aux_text::{Aux, with_cited};
+use bib_run::{Tap, read_up_to};
+use bib_text::{Seq, Text, copied};
+use bib_words::Command;
+use std::alloc::{AllocError, Global};
+use std::collections::HashMap;
+use std::fs::File;
+use std::io::ErrorKind;
+use std::{fs, io, str};
+
+/// An aux file has at most this many bytes: as many as a BibTeX file.
+const AUX_LIMIT: usize = 16_777_216;
+
+/// The aux files of one document name at most this many others.
+const INPUT_LIMIT: usize = 65_535;
+
+/// Why it is not known what aux files cite.
+#[derive(Drop)]
+pub enum AuxFault {
+    Memory,
+    /// The file at this path could not be read, for this reason.
+    Unread(Text, ErrorKind),
+    /// The file at this path is longer than 16,777,216 bytes.
+    TooLong(Text),
+}
+
+impl From<AllocError> for AuxFault {
+    fn from(_error: AllocError) -> Self {
+        AuxFault::Memory
+    }
+}
+
+/// The command with these keys after its own. If `*` is among them, it is the only key.
+pub fn citing(alloc: Global, command: Command, cited: Vec<Text>) -> Result<Command, AllocError>
+    ensures { IfOk result (λ now. now ≡ citing command cited.items) }
+{
+    let mut command = command;
+    let mut words = command.words.into_vec();
+    let keys = words.split_off(words.len().min(1))?;
+    let mut keys = with_cited(alloc, keys, cited)?;
+    words.append(&mut keys)?;
+    command.words = Seq::from_vec(words);
+    Ok(command)
+}
+
+/// The keys that the aux files with these names cite, in order, and those that the aux files cite that they name. Each file is
+/// read once. A file that is named by an aux file lies in the folder of the first one, and only regular files are read so: an
+/// aux file may come from a stranger.
+pub fn cited_in(
+    rt: &HostRuntime,
+    alloc: Global,
+    names: &[Text],
+) -> Result<Vec<Text>, AuxFault> {
+    let mut known = HashMap::new(alloc);
+    let mut cited = Vec::new(alloc);
+    'names: for name in names {
+        add_cited(rt, alloc, name.as_slice(), &mut known, &mut cited)?;
+    }
+    Ok(cited)
+}
+
+/// The paths of the files that were read.
+type Known = HashMap<Text, bool>;
+
+/// Adds the keys that the aux file with this name cites, and those that the aux files cite that it names.
+fn add_cited(
+    rt: &HostRuntime,
+    alloc: Global,
+    name: &[u8],
+    known: &mut Known,
+    cited: &mut Vec<Text>,
+) -> Result<(), AuxFault> {
+    let mut paths = Vec::new(alloc);
+    paths.push(copied(alloc, name)?)?;
+    'paths: for n in 0..INPUT_LIMIT + 1 {
+        let Some(path) = paths.get(n) else {
+            return Ok(());
+        };
+        let text = match text_once(rt, alloc, path.as_slice(), n > 0, known) {
+            Ok(text) => text,
+            Err(error) => return Err(unread(alloc, path.as_slice(), error.kind())),
+        };
+        let Some(text) = text else {
+            continue;
+        };
+        if text.len() > AUX_LIMIT {
+            return Err(AuxFault::TooLong(copied(alloc, path.as_slice())?));
+        }
+        let aux = Aux::read(alloc, text.as_slice())?;
+        cited.append(&mut aux.keys.into_vec())?;
+        add_paths(alloc, &mut paths, folder_of(name), aux.inputs.as_slice())?;
+    }
+    Err(unread(alloc, name, ErrorKind::FileTooLarge))
+}
+
+/// The bytes of the file at this path, up to one past the limit; nothing if it was read before.
+fn text_once(
+    rt: &HostRuntime,
+    alloc: Global,
+    path: &[u8],
+    is_input: bool,
+    known: &mut Known,
+) -> io::Result<Option<Vec<u8>>> {
+    let Ok(path) = str::from_utf8(path) else {
+        return Err(ErrorKind::InvalidFilename.into());
+    };
+    // a pipe has no path of its own
+    if let Some(whole) = found(fs::canonicalize(rt, path))? {
+        let whole = Text::from_vec(whole.into_string().into_bytes());
+        if known.insert(whole, true)?.is_some() {
+            return Ok(None);
+        }
+    }
+    if is_input && !fs::metadata(rt, path)?.is_file() {
+        return Err(ErrorKind::InvalidInput.into());
+    }
+    let mut source = Tap::new(File::open(rt, path)?);
+    match read_up_to(alloc, &mut source, AUX_LIMIT + 1) {
+        Ok(text) => Ok(Some(text)),
+        Err(_) if source.failed() => Err(ErrorKind::Other.into()),
+        Err(_) => Err(ErrorKind::OutOfMemory.into()),
+    }
+}
+
+/// Adds the paths of the files with these names, which lie in this folder unless they begin with a slash.
+fn add_paths(
+    alloc: Global,
+    paths: &mut Vec<Text>,
+    folder: &[u8],
+    names: &[Text],
+) -> Result<(), AllocError> {
+    'names: for name in names {
+        // one more than the limit shows that it is passed
+        if paths.len() <= INPUT_LIMIT + 1 {
+            let mut path = Vec::new(alloc);
+            if !name.as_slice().starts_with(b"/") {
+                path.extend_from_slice(folder)?;
+            }
+            path.extend_from_slice(name.as_slice())?;
+            paths.push(Text::from_vec(path))?;
+        }
+    }
+    Ok(())
+}
+
+/// The folder in the path of a file, up to the last slash.
+fn folder_of(path: &[u8]) -> &[u8] {
+    match path.iter().rposition(|byte| *byte == b'/') {
+        Some(at) => path.split_at(at + 1).0,
+        None => b"",
+    }
+}
+
+fn unread(alloc: Global, path: &[u8], kind: ErrorKind) -> AuxFault {
+    if kind == ErrorKind::OutOfMemory {
+        return AuxFault::Memory;
+    }
+    match copied(alloc, path) {
+        Ok(path) => AuxFault::Unread(path, kind),
+        Err(_) => AuxFault::Memory,
+    }
+}
