@@ -17,6 +17,7 @@ pub mod Labels
 pub mod Names
 pub mod NewKeys
 pub mod Positions
+pub mod Warnings
 pub mod Lint
 pub mod FindingLines
 pub mod LintedThrough

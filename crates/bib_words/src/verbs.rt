@@ -173,7 +173,7 @@ impl Verb {
                 most: Some(3),
                 ..KEYS
             },
-            Verb::Edit => Shape {
+            Verb::Lint | Verb::Edit => Shape {
                 most: None,
                 ..ALONE
             },
