@@ -21,7 +21,7 @@ findings_append w xs ys = ap (λ (t : Text). record w { text = t })
     (append_assoc w.text (flat_map line xs) (flat_map line ys) ∙ ap (λ (t : Text). w.text ++ t) (sym (flat_map-append line xs ys)))
   where
     line : Finding → Text
-    line = finding_line w.name w.file w.start
+    line = finding_line w.ignored w.name w.file w.start
 
 -- ---- uses
 

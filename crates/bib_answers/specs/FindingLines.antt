@@ -6,8 +6,9 @@ use Rattle.bib_scan.specs.declared.fault.ReadFault.{ReadFault}
 use Rattle.bib_answers.specs.Lint.{Finding, finding_line, error_line}
 use Rattle.bib_answers.specs.Positions.{position_of}
 
--- the file's name and bytes, where the item that is looked at begins, and the lines so far
+-- the codes that are ignored, the file's name and bytes, where the item that is looked at begins, and the lines so far
 pub record Written : Type 0 where
+  pub ignored : List Text
   pub name : Text
   pub file : Text
   pub start : ℕ
@@ -17,9 +18,9 @@ pub record Written : Type 0 where
 abbrev pub at_item : Written → ℕ → Written
 at_item w start = record w { start = start }
 
--- with the lines of these findings added
+-- with the lines of these findings added, but for those whose codes are ignored
 abbrev pub with_findings : Written → List Finding → Written
-with_findings w findings = record w { text = w.text ++ flat_map (finding_line w.name w.file w.start) findings }
+with_findings w findings = record w { text = w.text ++ flat_map (finding_line w.ignored w.name w.file w.start) findings }
 
 -- with the lines of these faults of reading added, each with its place in the file
 abbrev pub with_faults : Written → List ReadFault → Written

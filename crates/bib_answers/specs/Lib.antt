@@ -18,6 +18,7 @@ pub mod Names
 pub mod NewKeys
 pub mod Extract
 pub mod Positions
+pub mod Warnings
 pub mod Lint
 pub mod FindingLines
 pub mod LintedThrough

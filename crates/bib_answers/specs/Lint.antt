@@ -1,5 +1,5 @@
 -- `lint`: what is wrong with a file, as compilers write it: a line for each finding, with its position.
-use Rattle.std.specs.Prelude.{ℕ, ◌≡◌, ◌≢◌, ◌<◌, ◌≤◌, Bool, ◌==◌, ◌+◌, nat_lt, List, [], ◌∷◌, ◌++◌, length, map, Option, None, Some, is_none, if◌then◌else◌, option_and_then, slice_get, codes, zip}
+use Rattle.std.specs.Prelude.{ℕ, ◌≡◌, ◌≢◌, ◌<◌, ◌≤◌, Bool, ◌==◌, ◌+◌, bytes_eq, nat_lt, List, [], ◌∷◌, ◌++◌, length, map, Option, None, Some, is_none, if◌then◌else◌, option_and_then, slice_get, codes, zip}
 use Rattle.std.specs.Fmt.{decimal}
 use Rattle.std.specs.List.{flat_map, list_any, range_with_len}
 use Rattle.std.specs.Option.{option_map_or}
@@ -22,18 +22,23 @@ use Rattle.bib_answers.specs.declared.answers.Answer.{Answer}
 use Rattle.bib_answers.specs.declared.positions.Position.{Position}
 use Rattle.bib_answers.specs.Check.{Assigned, assigned, defined_in, entries_before}
 use Rattle.bib_answers.specs.Messages.{fault_name}
+use Rattle.bib_answers.specs.declared.warnings.Warning.{Warning}
+use Rattle.bib_answers.specs.declared.warnings.Warning.TheVariants.{UndefinedMacro, OwnMacro, RepeatedField, RepeatedKey, NoKey, OddKey, MissingParent, OwnParent, EarlyParent, NestedParent}
+use Rattle.bib_answers.specs.Warnings.{code_of, words_before, words_after}
 use Rattle.bib_answers.specs.Outcome.{answer_of}
 use Rattle.bib_answers.specs.Positions.{position_of}
 
 -- ---- findings
 
--- a finding in an item: its place in the item's body, and its words
-abbrev pub Finding : Type 0
-Finding = ℕ × Text
+-- a finding in an item: its kind, its place in the item, and the name, key or text that it is about
+pub record Finding : Type 0 where
+  pub kind : Warning
+  pub at : ℕ
+  pub name : Text
 
--- one finding at a place, whose words are `before`, a name, key or text, and `after`
-abbrev pub found : ℕ → Text → Text → Text → List Finding
-found at before name after = (at, before ++ (name ++ after)) ∷ []
+-- one finding of a kind at a place, about this name, key or text
+abbrev pub found : Warning → ℕ → Text → List Finding
+found kind at name = record { kind = kind; at = at; name = name } ∷ []
 
 -- ---- uses
 
@@ -44,8 +49,8 @@ placed_parts v = zip (map span_start (spans_of v)) (parts_of v)
 -- a part at this place uses the macro that is being defined, or else a macro that has no text there (dialect)
 abbrev pub use_findings : Option Text → Macros → ℕ → Part → List Finding
 use_findings own macros at (Macro name) =
-    if is_own own (folded name) then found at (codes "macro ") name (codes " is used in its own definition")
-    else if is_none (macros (folded name)) then found at (codes "macro ") name (codes " is not defined")
+    if is_own own (folded name) then found OwnMacro at name
+    else if is_none (macros (folded name)) then found UndefinedMacro at name
     else []
 use_findings own macros at (Braced t) = []
 use_findings own macros at (Quoted t) = []
@@ -60,7 +65,7 @@ value_findings own macros at v = flat_map (λ placed. use_findings own macros (a
 -- an earlier field of the item has the name; or else, if the field is the crossref, the findings on it
 abbrev pub name_findings : (ℕ → List Finding) → List Text → Field → List Finding
 name_findings crossrefs earlier field =
-    if list_any (same field.name) earlier then found field.name_at (codes "field ") field.name (codes " is there already")
+    if list_any (same field.name) earlier then found RepeatedField field.name_at field.name
     else if same field.name crossref then crossrefs field.value_at
     else []
 
@@ -81,18 +86,18 @@ grandparent entries n = option_and_then (other_than n) (option_and_then (parent 
 
 -- the target comes before the entry (dialect)
 abbrev pub order_findings : ℕ → ℕ → Text → ℕ → List Finding
-order_findings at n text m = if nat_lt m n then found at (codes "parent ") text (codes " stands before its child") else []
+order_findings at n text m = if nat_lt m n then found EarlyParent at text else []
 
 -- the target has a parent itself (btxdoc 2.1)
 abbrev pub nested_findings : ℕ → Text → Option ℕ → List Finding
 nested_findings at text None = []
-nested_findings at text (Some k) = found at (codes "parent ") text (codes " has a parent itself, whose fields are not inherited")
+nested_findings at text (Some k) = found NestedParent at text
 
 -- entry n has a crossref with this text at this place, and this target; `grand` is the target's parent
 abbrev pub target_findings : ℕ → ℕ → Text → Option ℕ → Option ℕ → List Finding
-target_findings at n text None grand = found at (codes "crossref ") text (codes " names no entry")
+target_findings at n text None grand = found MissingParent at text
 target_findings at n text (Some m) grand =
-    if m == n then found at (codes "crossref ") text (codes " names its own entry")
+    if m == n then found OwnParent at text
     else order_findings at n text m ++ nested_findings at text grand
 
 -- the findings on a crossref; none if its text is empty (dialect)
@@ -106,14 +111,14 @@ crossrefs_of entries n = crossref_findings n (option_and_then crossref_text (sli
 
 -- an earlier entry has the key
 abbrev pub repeated_findings : ℕ → Bool → Text → List Finding
-repeated_findings at repeated key = if repeated then found at (codes "key ") key (codes " is that of an earlier entry") else []
+repeated_findings at repeated key = if repeated then found RepeatedKey at key else []
 
 -- no edit could write the key: it is empty, or has a byte that `is_new_key` does not take
 abbrev pub unusual_findings : ℕ → Text → List Finding
 unusual_findings at key =
-    if is_empty key then found at (codes "the entry") key (codes " has no key")
+    if is_empty key then found NoKey at key
     else if is_new_key key then []
-    else found at (codes "key ") key (codes " is none that an edit could write")
+    else found OddKey at key
 
 -- the findings in an entry's key at this place
 abbrev pub key_findings : ℕ → Bool → Text → List Finding
@@ -145,29 +150,36 @@ findings_on db n =
 abbrev pub placed_at : Text → Position → Text
 placed_at name at = name ++ (codes ":" ++ (decimal at.line ++ (codes ":" ++ (decimal at.column ++ codes ": "))))
 
--- `name:line:column: warning: words`, a line (GNU coding standards 4.4)
-abbrev pub warning_line : Text → Position → Text → Text
-warning_line name at words = placed_at name at ++ (codes "warning: " ++ (words ++ codes "\n"))
+-- `name:line:column: warning: words [code]`, a line, whose words are those of the kind around this name, key or text (GNU
+-- coding standards 4.4)
+abbrev pub warning_line : Text → Position → Warning → Text → Text
+warning_line name at kind about =
+    placed_at name at ++ (codes "warning: " ++ (words_before kind ++ (about ++ (words_after kind ++ (codes " [" ++ (code_of kind ++ codes "]\n"))))))
 
--- the line of a finding in an item that begins at `start`, in a file with this name
-abbrev pub finding_line : Text → Text → ℕ → Finding → Text
-finding_line name file start finding = warning_line name (position_of file (start + finding.0)) finding.1
+-- findings of this kind are left out if its code is ignored
+abbrev pub is_ignored : List Text → Warning → Bool
+is_ignored ignored kind = list_any (bytes_eq (code_of kind)) ignored
+
+-- the line of a finding in an item that begins at `start`, in a file with this name, if its code is not ignored
+abbrev pub finding_line : List Text → Text → Text → ℕ → Finding → Text
+finding_line ignored name file start finding =
+    if is_ignored ignored finding.kind then [] else warning_line name (position_of file (start + finding.at)) finding.kind finding.name
 
 -- the lines of item n, in order
-abbrev pub item_lines : Text → Text → Reading → ℕ → Text
-item_lines name file db n = flat_map (finding_line name file (start_of db n)) (findings_on db n)
+abbrev pub item_lines : List Text → Text → Text → Reading → ℕ → Text
+item_lines ignored name file db n = flat_map (finding_line ignored name file (start_of db n)) (findings_on db n)
 
 -- the lines of all items, in order
-abbrev pub lint_lines : Text → Text → Reading → Text
-lint_lines name file db = flat_map (item_lines name file db) (range_with_len 0 (length db.items))
+abbrev pub lint_lines : List Text → Text → Text → Reading → Text
+lint_lines ignored name file db = flat_map (item_lines ignored name file db) (range_with_len 0 (length db.items))
 
 -- the status is 1 where something is found
 abbrev pub lint_status : Text → ℕ
 lint_status lines = if is_empty lines then 0 else 1
 
 -- `lint F` for a valid file: the lines, and the status that goes with them (dialect)
-abbrev pub lint_answer : Text → Text → Reading → Answer
-lint_answer name file db = answer_of (lint_lines name file db) [] (lint_status (lint_lines name file db))
+abbrev pub lint_answer : List Text → Text → Text → Reading → Answer
+lint_answer ignored name file db = answer_of (lint_lines ignored name file db) [] (lint_status (lint_lines ignored name file db))
 
 -- `name:line:column: error: N Name`, a line
 abbrev pub error_line : Text → Position → ℕ → Text
@@ -181,11 +193,11 @@ fault_line name file fault = error_line name (position_of file fault.place) (fau
 abbrev pub fault_lines : Text → Text → List Fault → Text
 fault_lines name file faults = flat_map (fault_line name file) faults
 
--- `lint F`, where F has this name and these bytes: the findings; or each fault of reading; or the one fault for which a file
+-- `lint F`, where F has this name and these bytes: the findings whose codes are not ignored; or each fault of reading; or the one fault for which a file
 -- that has none is not opened (dialect)
-pub data IsLintAnswer (name file : Text) (answer : Answer) : Type 0 where
-  opened : (db : Reading) → Opens file db → answer ≡ lint_answer name file db → IsLintAnswer name file answer
+pub data IsLintAnswer (ignored : List Text) (name file : Text) (answer : Answer) : Type 0 where
+  opened : (db : Reading) → Opens file db → answer ≡ lint_answer ignored name file db → IsLintAnswer ignored name file answer
   faulty : length file ≤ file_limit → (HasReading file → ⊥) → (faults : List Fault) → Faults file faults → answer ≡ answer_of (fault_lines name file faults) [] 1
-      → IsLintAnswer name file answer
+      → IsLintAnswer ignored name file answer
   refused : (kind place : ℕ) → kind ≢ 10 → 7 < kind → IsOpenFault file kind place → answer ≡ answer_of (error_line name (position_of file place) kind) [] 1
-      → IsLintAnswer name file answer
+      → IsLintAnswer ignored name file answer

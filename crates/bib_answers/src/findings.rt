@@ -24,6 +24,7 @@ use crate::kinds::is_same_kind;
 use crate::numbered::NumberedItem;
 use crate::reporting::{defined_in, is_own, is_repeated};
 use crate::seen_names::SeenNames;
+use crate::warnings::Warning;
 use bib_scan::{
     FieldView, ItemView, Kind, Part, Parts, is_key, only_part, read_value, same_folded,
 };
@@ -89,7 +90,7 @@ fn add_repeated(
     ensures { OnOk result (lines.new ≡ with_findings lines.old (repeated_findings at repeated key.now)) }
 {
     if repeated {
-        return lines.add(at, b"key ", key, b" is that of an earlier entry");
+        return lines.add(Warning::RepeatedKey, at, key);
     }
     Ok(())
 }
@@ -98,12 +99,12 @@ fn add_unusual(lines: &mut FindingLines<'_>, at: usize, key: &[u8]) -> Result<()
     ensures { OnOk result (lines.new ≡ with_findings lines.old (unusual_findings at key.now)) }
 {
     if key.is_empty() {
-        return lines.add(at, b"the entry", key, b" has no key");
+        return lines.add(Warning::NoKey, at, key);
     }
     if is_key(key) {
         return Ok(());
     }
-    lines.add(at, b"key ", key, b" is none that an edit could write")
+    lines.add(Warning::OddKey, at, key)
 }
 
 // ---- crossrefs
@@ -183,8 +184,8 @@ fn add_target(
     ensures { OnOk result (lines.new ≡ with_findings lines.old (target_findings at crossref.entry.n text.now crossref.entry.target crossref.entry.grandparent)) }
 {
     match crossref.target {
-        None => lines.add(at, b"crossref ", text, b" names no entry"),
-        Some(m) if m == crossref.n => lines.add(at, b"crossref ", text, b" names its own entry"),
+        None => lines.add(Warning::MissingParent, at, text),
+        Some(m) if m == crossref.n => lines.add(Warning::OwnParent, at, text),
         Some(m) => {
             add_order(lines, at, crossref.n, text, m)?;
             add_nested(lines, at, text, crossref.grandparent)
@@ -202,7 +203,7 @@ fn add_order(
     ensures { OnOk result (lines.new ≡ with_findings lines.old (order_findings at n text.now m)) }
 {
     if m < n {
-        return lines.add(at, b"parent ", text, b" stands before its child");
+        return lines.add(Warning::EarlyParent, at, text);
     }
     Ok(())
 }
@@ -217,12 +218,7 @@ fn add_nested(
 {
     match grandparent {
         None => Ok(()),
-        Some(_) => lines.add(
-            at,
-            b"parent ",
-            text,
-            b" has a parent itself, whose fields are not inherited",
-        ),
+        Some(_) => lines.add(Warning::NestedParent, at, text),
     }
 }
 
@@ -278,7 +274,7 @@ fn add_name(
         → lines.new ≡ with_findings lines.old (name_findings (crossref_findings crossref.entry.n (option_copied crossref.entry.text) crossref.entry.target crossref.entry.grandparent) names (field_seen field.entry))) }
 {
     if earlier.has(field.name) {
-        return lines.add(field.name_at, b"field ", field.name, b" is there already");
+        return lines.add(Warning::RepeatedField, field.name_at, field.name);
     }
     if same_folded(field.name, b"crossref") {
         return add_crossref(lines, field.value_at, crossref);
@@ -365,16 +361,10 @@ fn add_use<M: MacroTable>(
         return Ok(());
     };
     if is_own(name, value.own) {
-        return lines.add_after(
-            value.at,
-            more,
-            b"macro ",
-            name,
-            b" is used in its own definition",
-        );
+        return lines.add_after(Warning::OwnMacro, value.at, more, name);
     }
     if macros.text_of(name).is_none() {
-        return lines.add_after(value.at, more, b"macro ", name, b" is not defined");
+        return lines.add_after(Warning::UndefinedMacro, value.at, more, name);
     }
     Ok(())
 }

@@ -28,6 +28,7 @@ mod positions;
 mod reporting;
 mod seen_names;
 mod show;
+mod warnings;
 
 pub use answers::{Answer, Outcome, done, no_such_entry, outcome_of, refused, too_long, unread};
 pub use cat::answer_cat;

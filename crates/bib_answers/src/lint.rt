@@ -25,12 +25,18 @@ use std::alloc::{AllocError, Global};
 /// The last of the faults of reading, by number: faults with a greater number are of files that are valid or too long.
 const LAST_OF_READING: u8 = 7;
 
-/// What is wrong with the file that has this name and these bytes, or each place where it is not valid.
-pub fn answer_lint(alloc: Global, name: &[u8], file: &[u8]) -> Result<Answer, AllocError>
-    ensures { IfOk result (IsLintAnswer name.now file.now) }
+/// What is wrong with the file that has this name and these bytes, or each place where it is not valid. Findings with one of the
+/// ignored codes are left out; a code that no finding has changes nothing.
+pub fn answer_lint(
+    alloc: Global,
+    name: &[u8],
+    file: &[u8],
+    ignored: &[Text],
+) -> Result<Answer, AllocError>
+    ensures { IfOk result (IsLintAnswer ignored.now name.now file.now) }
 {
     match Database::open_bytes(alloc, file, Paged::new(alloc)) {
-        Ok(db) => lint(alloc, name, file, &db),
+        Ok(db) => lint(alloc, ignored, name, file, &db),
         Err(fault) => unread(alloc, name, file, fault),
     }
 }
@@ -46,7 +52,7 @@ fn is_past_reading(fault: ReadFault) -> bool
 /// opened. Want of memory is no answer.
 fn unread(alloc: Global, name: &[u8], file: &[u8], fault: ReadFault) -> Result<Answer, AllocError>
     requires { IsOpenFault file.now fault.kind fault.place }
-    ensures { IfOk result (IsLintAnswer name.now file.now) }
+    ensures { IfOk result (λ answer. (ignored : List (List ℕ)) → IsLintAnswer ignored name.now file.now answer) }
 {
     if fault.is_memory() {
         return Err(AllocError);
@@ -76,7 +82,7 @@ fn answer_faults(
 ) -> Result<Answer, AllocError>
     ensures { IfOk result (λ answer. answer ≡ answer_of (flat_map (λ fault. error_line name.now (position_of file.now fault.place) fault.kind) faults.now) [] 1) }
 {
-    let mut lines = FindingLines::new(alloc, name, file);
+    let mut lines = FindingLines::new(alloc, &[], name, file);
     lines.add_faults(faults)?;
     Ok(told(alloc, lines.into_text(), status::REFUSED))
 }
@@ -102,10 +108,16 @@ fn status_of(lines: &[u8]) -> u8
     }
 }
 
-fn lint(alloc: Global, name: &[u8], file: &[u8], db: &Database<Paged>) -> Result<Answer, AllocError>
-    ensures { IfOk result (λ answer. OfReading db.now (λ r. answer ≡ lint_answer name.now file.now r)) }
+fn lint(
+    alloc: Global,
+    ignored: &[Text],
+    name: &[u8],
+    file: &[u8],
+    db: &Database<Paged>,
+) -> Result<Answer, AllocError>
+    ensures { IfOk result (λ answer. OfReading db.now (λ r. answer ≡ lint_answer ignored.now name.now file.now r)) }
 {
-    let lines = lines_of(alloc, name, file, db)?;
+    let lines = lines_of(alloc, ignored, name, file, db)?;
     let status = status_of(lines.as_slice());
     Ok(told(alloc, lines, status))
 }
@@ -120,14 +132,15 @@ struct Found<'a> {
 /// The lines of all items.
 fn lines_of(
     alloc: Global,
+    ignored: &[Text],
     name: &[u8],
     file: &[u8],
     db: &Database<Paged>,
 ) -> Result<Vec<u8>, AllocError>
-    ensures { IfOk result (λ lines. OfReading db.now (λ r. lines.items ≡ lint_lines name.now file.now r)) }
+    ensures { IfOk result (λ lines. OfReading db.now (λ r. lines.items ≡ lint_lines ignored.now name.now file.now r)) }
 {
     let mut found = Found {
-        lines: FindingLines::new(alloc, name, file),
+        lines: FindingLines::new(alloc, ignored, name, file),
         entries: 0,
     };
     let mut names = SeenNames::new(alloc);
@@ -147,8 +160,8 @@ fn look_at<'a>(
 ) -> Result<(), AllocError>
     requires item { IsItemNumber db.now n }
     requires small { n + 1 < 2 ^ 64 }
-    requires before { IsLintedBefore db.now found.old.lines.name found.old.lines.file n found.old }
-    ensures { OnOk result (IsLintedBefore db.now found.old.lines.name found.old.lines.file (n + 1) found.new) }
+    requires before { IsLintedBefore db.now found.old.lines.ignored found.old.lines.name found.old.lines.file n found.old }
+    ensures { OnOk result (IsLintedBefore db.now found.old.lines.ignored found.old.lines.name found.old.lines.file (n + 1) found.new) }
 {
     db.opens();
     let item = db.item(n);

@@ -38,6 +38,10 @@ aux_files = record (new_rule (codes "AUX")) { long = Some (codes "aux"); action 
 abbrev pub switch : Text → Rule
 switch name = record (new_rule name) { long = Some name; action = Some SetTrue }
 
+-- `--ignore CODE`: given any number of times
+abbrev pub ignore : Rule
+ignore = record (new_rule (codes "CODE")) { long = Some (codes "ignore"); action = Some Append }
+
 -- `--NAME N`: a number from 1 to 65535, and `default` if the option is left out
 abbrev pub count : Text → Text → Rule
 count name default = record (new_rule (codes "N")) {
@@ -63,6 +67,10 @@ over_file name = with_rule (new_app name) (needed (codes "F"))
 -- `cat [F]`
 abbrev pub cat_line : App
 cat_line = with_rule (new_app (codes "cat")) any_file
+
+-- `lint F [--ignore CODE]..`
+abbrev pub lint_line : App
+lint_line = with_rule (over_file (codes "lint")) ignore
 
 -- `show F [--depth D] KEY`
 abbrev pub show_line : App
@@ -139,7 +147,7 @@ bibkeep_top = on_top (λ s. record s { has_version = true; subcommand_required =
 -- the program with the commands that show what a file says
 abbrev pub bibkeep_shows : App
 bibkeep_shows =
-    adds (adds (adds (adds (adds (adds bibkeep_top cat_line) (over_file (codes "check"))) (over_file (codes "lint"))) show_line) entry_line) cite_line
+    adds (adds (adds (adds (adds (adds bibkeep_top cat_line) (over_file (codes "check"))) lint_line) show_line) entry_line) cite_line
 
 -- and with those that make labels, JSON, names or keys of it
 abbrev pub bibkeep_makes : App
@@ -178,9 +186,9 @@ depth rows = option_map_or (number_said 8) (one_of (codes "D") rows) 0
 abbrev pub given : Text → List Row → Bool
 given name rows = option_map_or (λ text. bytes_eq text (codes "true")) (one_of name rows) false
 
--- the positional words, in order
+-- the positional words, in order, and after them the codes to ignore
 abbrev pub words_in : List Row → List Text
-words_in rows = values (codes "F") rows ++ values (codes "KEY") rows ++ values (codes "TEMPLATE") rows ++ values (codes "WORD") rows ++ values (codes "FAULT") rows
+words_in rows = values (codes "F") rows ++ values (codes "KEY") rows ++ values (codes "TEMPLATE") rows ++ values (codes "WORD") rows ++ values (codes "FAULT") rows ++ values (codes "CODE") rows
 
 -- the command of this name with these matches
 abbrev pub command_of : Text → List Row → Command

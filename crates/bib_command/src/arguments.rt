@@ -2,7 +2,7 @@
 
 ghost use Rattle.std.specs.Prelude.{◌≡◌, false, codes};
 ghost use Rattle.clap.specs.Words.{rule_of};
-ghost use Rattle.bib_command.specs.CommandLine.{any_file, needed, keys, aux_files, edit_words, switch, count, levels};
+ghost use Rattle.bib_command.specs.CommandLine.{any_file, needed, keys, aux_files, edit_words, switch, ignore, count, levels};
 
 use clap::{Arg, ArgAction, value_parser};
 use std::alloc::Global;
@@ -109,6 +109,17 @@ pub fn hints<'a>(alloc: Global) -> Arg<'a>
         "hints",
         "Prints hints below a message, as on a terminal",
     )
+}
+
+/// `--ignore`.
+pub fn ignore<'a>(alloc: Global) -> Arg<'a>
+    ensures rule { rule_of result ≡ ignore }
+    ensures local { result.global ≡ false }
+{
+    Arg::new(alloc, "CODE")
+        .long("ignore")
+        .action(ArgAction::Append)
+        .help("Leaves out findings with this code; may be given several times")
 }
 
 /// An option with a number, which is `default` if the option is left out.

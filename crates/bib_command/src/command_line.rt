@@ -3,10 +3,10 @@
 ghost use Rattle.std.specs.Prelude.{◌≡◌, IfOk, codes};
 ghost use Rattle.clap.specs.Words.{App, new_app};
 ghost use Rattle.bib_command.specs.Lines.{Reads};
-ghost use Rattle.bib_command.specs.CommandLine.{adds, over_file, cat_line, show_line, cited_line, entry_line, cite_line, edit_or_print_line, keys_line, names_line, newkeys_line, edit_line, steps_line, ris_line, import_line, explain_line, bibkeep_top, bibkeep_shows, bibkeep_makes, bibkeep_edits, bibkeep};
+ghost use Rattle.bib_command.specs.CommandLine.{adds, over_file, cat_line, lint_line, show_line, cited_line, entry_line, cite_line, edit_or_print_line, keys_line, names_line, newkeys_line, edit_line, steps_line, ris_line, import_line, explain_line, bibkeep_top, bibkeep_shows, bibkeep_makes, bibkeep_edits, bibkeep};
 
 use crate::arguments::{
-    any_file, aux_files, count, edit_words, hints, keys, levels, needed, new_journal, no_journal, print,
+    any_file, aux_files, count, edit_words, hints, ignore, keys, levels, needed, new_journal, no_journal, print,
     switch,
 };
 use clap::Command;
@@ -123,19 +123,22 @@ Example:
 }
 
 fn lint<'a>(alloc: Global) -> Result<Command<'a>, AllocError>
-    ensures { IfOk result (Reads (over_file (codes "lint"))) }
+    ensures { IfOk result (Reads lint_line) }
 {
     over_file(
         alloc,
         "lint",
         "Reports what looks wrong, one finding per line with line and column, for editors and hooks",
         "\
-A finding is a line such as `refs.bib:12:5: warning: macro mai is not defined`. The column counts bytes from 1. The status
-is 1 if there is a finding, and 0 if there is none.
+A finding is a line such as `refs.bib:12:5: warning: macro mai is not defined [undefined-macro]`. The column counts bytes
+from 1. The status is 1 if there is a finding, and 0 if there is none. The word in brackets is the finding's code: with
+`--ignore undefined-macro` such lines are left out, and do not count.
 
-Example:
-  bibkeep lint refs.bib",
-    )
+Examples:
+  bibkeep lint refs.bib
+  bibkeep lint refs.bib --ignore undefined-macro --ignore nested-parent",
+    )?
+    .arg(ignore(alloc))
 }
 
 fn show<'a>(alloc: Global) -> Result<Command<'a>, AllocError>

@@ -98,7 +98,7 @@ fn command_of(alloc: Global, name: &str, matches: &ArgMatches<'_>) -> Result<Com
     })
 }
 
-/// The positional words of a command, in order.
+/// The positional words of a command, in order, and after them the codes to ignore.
 fn words_in(alloc: Global, matches: &ArgMatches<'_>) -> Result<Seq<Text>, AllocError>
     ensures { IfOk result (λ words. words ≡ words_in (rows_of (found_of matches.now))) }
 {
@@ -108,6 +108,7 @@ fn words_in(alloc: Global, matches: &ArgMatches<'_>) -> Result<Seq<Text>, AllocE
     add_values(alloc, &mut words, matches, "TEMPLATE")?;
     add_values(alloc, &mut words, matches, "WORD")?;
     add_values(alloc, &mut words, matches, "FAULT")?;
+    add_values(alloc, &mut words, matches, "CODE")?;
     Ok(Seq::from_vec(words))
 }
 

@@ -118,18 +118,18 @@ past_is_read file kind place told past short unread (inl fault) = of_read kind p
     of_read k p (no_memory within) told past = told refl
 past_is_read file kind place told past short unread (inr text) = unread (text.db, text.reads)
 
-one_lint : (name file : Text) → One (IsLintAnswer name file)
-one_lint name file a b (IsLintAnswer.opened db opens is) (IsLintAnswer.opened db' opens' is') =
-    is ∙ ap (lint_answer name file) (one_reading name_limit file db db' opens.reads opens'.reads) ∙ sym is'
-one_lint name file a b (IsLintAnswer.opened db opens is) (IsLintAnswer.faulty short unread faults are is') = absurd (unread (db, opens.reads))
-one_lint name file a b (IsLintAnswer.opened db opens is) (IsLintAnswer.refused kind place told past fault is') = absurd (told (open_fault file kind place (db, opens) fault))
-one_lint name file a b (IsLintAnswer.faulty short unread faults are is) (IsLintAnswer.opened db opens is') = absurd (unread (db, opens.reads))
-one_lint name file a b (IsLintAnswer.faulty short unread faults are is) (IsLintAnswer.faulty short' unread' faults' are' is') =
+one_lint : (ignored : List Text) (name file : Text) → One (IsLintAnswer ignored name file)
+one_lint ignored name file a b (IsLintAnswer.opened db opens is) (IsLintAnswer.opened db' opens' is') =
+    is ∙ ap (lint_answer ignored name file) (one_reading name_limit file db db' opens.reads opens'.reads) ∙ sym is'
+one_lint ignored name file a b (IsLintAnswer.opened db opens is) (IsLintAnswer.faulty short unread faults are is') = absurd (unread (db, opens.reads))
+one_lint ignored name file a b (IsLintAnswer.opened db opens is) (IsLintAnswer.refused kind place told past fault is') = absurd (told (open_fault file kind place (db, opens) fault))
+one_lint ignored name file a b (IsLintAnswer.faulty short unread faults are is) (IsLintAnswer.opened db opens is') = absurd (unread (db, opens.reads))
+one_lint ignored name file a b (IsLintAnswer.faulty short unread faults are is) (IsLintAnswer.faulty short' unread' faults' are' is') =
     is ∙ ap (λ (fs : List Fault). answer_of (fault_lines name file fs) [] 1) (one-list-of-faults file faults faults' are are') ∙ sym is'
-one_lint name file a b (IsLintAnswer.faulty short unread faults are is) (IsLintAnswer.refused kind place told past fault is') = absurd (past_is_read file kind place told past short unread fault)
-one_lint name file a b (IsLintAnswer.refused kind place told past fault is) (IsLintAnswer.opened db opens is') = absurd (told (open_fault file kind place (db, opens) fault))
-one_lint name file a b (IsLintAnswer.refused kind place told past fault is) (IsLintAnswer.faulty short unread faults are is') = absurd (past_is_read file kind place told past short unread fault)
-one_lint name file a b (IsLintAnswer.refused kind place told past fault is) (IsLintAnswer.refused kind' place' told' past' fault' is') =
+one_lint ignored name file a b (IsLintAnswer.faulty short unread faults are is) (IsLintAnswer.refused kind place told past fault is') = absurd (past_is_read file kind place told past short unread fault)
+one_lint ignored name file a b (IsLintAnswer.refused kind place told past fault is) (IsLintAnswer.opened db opens is') = absurd (told (open_fault file kind place (db, opens) fault))
+one_lint ignored name file a b (IsLintAnswer.refused kind place told past fault is) (IsLintAnswer.faulty short unread faults are is') = absurd (past_is_read file kind place told past short unread fault)
+one_lint ignored name file a b (IsLintAnswer.refused kind place told past fault is) (IsLintAnswer.refused kind' place' told' past' fault' is') =
     let same = one_open_fault file kind place kind' place' told told' fault fault' in
     is ∙ ap₂ (λ (k p : ℕ). answer_of (error_line name (position_of file p) k) [] 1) same.0 same.1 ∙ sym is'
 
@@ -317,7 +317,7 @@ one_whole command file journal input a b x y =
 one_of_verb : (verb : Verb) (command : Command) (file : Text) (journal : Option Text) (input : Text) → verb ≢ Explain → One (Answers verb command file journal input)
 one_of_verb (Asks question) command file journal input other = one_of_file (question_answer question command) file
 one_of_verb Cat command file journal input other = one_cat file
-one_of_verb Lint command file journal input other = one_lint (first_word command) file
+one_of_verb Lint command file journal input other = one_lint (key_words command) (first_word command) file
 one_of_verb Names command file journal input other = one_names command.depth (key_word command) (template_word command) file
 one_of_verb Explain command file journal input other = absurd (other refl)
 one_of_verb Edit command file journal input other = one_whole command file journal input

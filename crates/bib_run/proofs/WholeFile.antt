@@ -2,7 +2,7 @@
 use Rattle.bib_run.proofs.Words.{◌≡◌, ◌≢◌, ◌∙◌, Bool, ℕ, ◌+◌, ◌<◌, ◌≤◌, [], ◌++◌, length, take, drop, ap, Option, Some, None, subst, refl, arith, inl, inr, sym, codes, take_all, take-add, Consumes, file_limit, Text, IsReadFault, no_reading, Command, Answer, ReadsUpTo, Reading, KeptSteps, Request}
 use Rattle.bib_run.proofs.Words.{SessionState, Opens, IsOpenFault, AnswersFile, IsCatAnswer, IsLintAnswer, error_line, answer_of, position_of, IsAnswer, key_words, first_word, AnswersSession, AnswersInput}
 use Rattle.bib_run.proofs.Words.{HasEditedBy, HasEditedByWords, HasImported, IsUnopened, IsUnopenedAnswer, OpensWith, judged_journal, IsTurnAnswer, IsLogAnswer, IsForgetAnswer}
-use Rattle.std.proofs.Common.{fold, append-nil, length-append, IsSomeAnd}
+use Rattle.std.proofs.Common.{List, fold, append-nil, length-append, IsSomeAnd}
 use Rattle.std.proofs.lemmas.List.{length-take-le}
 use Rattle.std.proofs.lemmas.Bool.{cases_eq, cases_lt}
 use Rattle.std.proofs.Math.Seq.{take-append_seam}
@@ -137,10 +137,11 @@ fault_position bytes kind place long (inl (no_reading fault at within failing wr
 fault_position bytes kind place long (inl (no_memory within)) = absurd (front_is_long bytes long within)
 fault_position bytes kind place long (inr fault) = absurd (front_is_long bytes long fault.short)
 
-IsLintAnswer-long : (name bytes : Text) (answer : Answer) → file_limit < length bytes → IsLintAnswer name (take (file_limit + 1) bytes) answer → IsLintAnswer name bytes answer
-IsLintAnswer-long name bytes answer long (linting.opened db opens is) = absurd (front_is_long bytes long opens.short)
-IsLintAnswer-long name bytes answer long (linting.faulty short unread faults are is) = absurd (front_is_long bytes long short)
-IsLintAnswer-long name bytes answer long (linting.refused kind place other past fault is) =
+IsLintAnswer-long : (ignored : List Text) (name bytes : Text) (answer : Answer) → file_limit < length bytes → IsLintAnswer ignored name (take (file_limit + 1) bytes) answer
+    → IsLintAnswer ignored name bytes answer
+IsLintAnswer-long ignored name bytes answer long (linting.opened db opens is) = absurd (front_is_long bytes long opens.short)
+IsLintAnswer-long ignored name bytes answer long (linting.faulty short unread faults are is) = absurd (front_is_long bytes long short)
+IsLintAnswer-long ignored name bytes answer long (linting.refused kind place other past fault is) =
     linting.refused kind place other past (IsOpenFault-long bytes kind place long fault)
     (is ∙ ap (λ (at : Position). answer_of (error_line name at kind) [] 1) (fault_position bytes kind place long fault))
 
@@ -165,7 +166,7 @@ Answers-long : (verb : Verb) (command : Command) (bytes : Text) (journal : Optio
     → Answers verb command (take (file_limit + 1) bytes) journal input answer → Answers verb command bytes journal input answer
 Answers-long (Asks question) command bytes journal input answer long = AnswersFile-long (question_answer question command) bytes answer long
 Answers-long Cat command bytes journal input answer long = IsCatAnswer-long bytes answer long
-Answers-long Lint command bytes journal input answer long = IsLintAnswer-long (first_word command) bytes answer long
+Answers-long Lint command bytes journal input answer long = IsLintAnswer-long (key_words command) (first_word command) bytes answer long
 Answers-long Names command bytes journal input answer long = IsNamesAnswer-long command.depth (key_word command) (template_word command) bytes answer long
 Answers-long Explain command bytes journal input answer long = λ given. given
 Answers-long Edit command bytes journal input answer long = IsWholeAnswer-long command bytes journal input answer long

@@ -73,7 +73,7 @@ pub record IsWholeAnswer (command : Command) (file : Text) (journal : Option Tex
 abbrev pub Answers : Verb → Command → Text → Option Text → Text → Answer → Type 0
 Answers (Asks question) command file journal input = AnswersFile (question_answer question command) file
 Answers Cat command file journal input = IsCatAnswer file
-Answers Lint command file journal input = IsLintAnswer (first_word command) file
+Answers Lint command file journal input = IsLintAnswer (key_words command) (first_word command) file
 Answers Names command file journal input = IsNamesAnswer command.depth (key_word command) (template_word command) file
 Answers Explain command file journal input = IsExplainAnswer (first_word command)
 Answers Edit command file journal input = IsWholeAnswer command file journal input

@@ -158,7 +158,10 @@ fn answer_verb(
     match verb {
         Verb::Asks(question) => answer_question(alloc, question, command, file),
         Verb::Cat => answer_cat(alloc, file),
-        Verb::Lint => answer_lint(alloc, word(command, 0), file.as_slice()),
+        Verb::Lint => {
+            let ignored = words_after_file(command);
+            answer_lint(alloc, word(command, 0), file.as_slice(), ignored)
+        }
         Verb::Names => {
             let (key, template) = (word(command, 1), word(command, 2));
             answer_names(alloc, file, key, command.depth, template)

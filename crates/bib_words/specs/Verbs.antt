@@ -62,6 +62,7 @@ abbrev pub shape : Verb → Shape
 shape (Asks question) = question_shape question
 shape Cat = record alone { least = 0 }
 shape Names = record { least = 3; most = Some 3; number = false; depth = true; aux = false }
+shape Lint = record alone { most = None }
 shape Edit = record alone { most = None }
 shape Undo = with_number
 shape Redo = with_number

@@ -9,9 +9,10 @@ const NUMBER_LIMIT: u32 = 65_535;
 /// The greatest depth of the records that a command shows.
 const DEPTH_LIMIT: u8 = 8;
 
-/// A command: its name; its arguments in order, the file first if there is one; the names of the aux files that cite more
-/// keys; its number, and the depth of the records that it shows, each 0 if the command takes none; and whether its options
-/// `--print`, `--new-journal`, `--no-journal`, `--all-or-nothing`, `--dropped`, `--at` and `--strict` were given.
+/// A command: its name; its arguments in order, the file first if there is one, and for `lint` after it the codes to ignore;
+/// the names of the aux files that cite more keys; its number, and the depth of the records that it shows, each 0 if the
+/// command takes none; and whether its options `--print`, `--new-journal`, `--no-journal`, `--all-or-nothing`, `--dropped`,
+/// `--at` and `--strict` were given.
 #[derive(Drop)]
 pub struct Command {
     pub name: Text,

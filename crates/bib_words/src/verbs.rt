@@ -206,7 +206,7 @@ impl Verb {
                 aux: false,
                 ..KEYS
             },
-            Verb::Edit => Shape {
+            Verb::Lint | Verb::Edit => Shape {
                 most: None,
                 ..ALONE
             },

@@ -17,9 +17,10 @@ returns c =
     let before = c.requires.before in
     let opened = c.opens.ensures in
     let small = counted_small c.is_same_kind.result c.args.found.now.entries n before.few_entries in record {
+      ignored_are = ap (λ (w : Written). w.ignored) (c.in_ok-add_item_findings.ensures opened.0 opened.1.reads);
       name_is = ap (λ (w : Written). w.name) (c.in_ok-add_item_findings.ensures opened.0 opened.1.reads);
       bytes_are = ap (λ (w : Written). w.file) (c.in_ok-add_item_findings.ensures opened.0 opened.1.reads);
-      text = λ r reads. items_more (item_lines c.args.found.now.lines.name c.args.found.now.lines.file r) n [] c.args.found.now.lines.text c.add_item_findings.new.lines.text
+      text = λ r reads. items_more (item_lines c.args.found.now.lines.ignored c.args.found.now.lines.name c.args.found.now.lines.file r) n [] c.args.found.now.lines.text c.add_item_findings.new.lines.text
           (before.text r reads) (ap (λ (w : Written). w.text) (c.in_ok-add_item_findings.ensures r reads));
       entries = λ r reads. c.counted-found.ensures
           ∙ entries_counted r n c.is_same_kind.result c.args.found.now.entries (c.requires.item r reads)

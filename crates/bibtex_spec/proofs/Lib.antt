@@ -1,0 +1,5 @@
+-- ---- faults
+-- ---- lists
+pub mod StarLaws
+pub mod InStepLaws
+pub mod RenamingLaws
