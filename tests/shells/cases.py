@@ -49,6 +49,8 @@ FILES = {
 CASES = [
     ("bibkeep sho\t", ["bibkeep", "show"]),
     ("bibkeep edit one.bib --pri\t", ["bibkeep", "edit", "one.bib", "--print"]),
+    ("bibkeep edit one.bib --no\t", ["bibkeep", "edit", "one.bib", "--no-journal"]),
+    ("bibkeep entry one.bib key\t", ["bibkeep", "entry", "one.bib", "key1"]),
     ("bibkeep edit one.bib rename-m\t", ["bibkeep", "edit", "one.bib", "rename-macro"]),
     # keys
     *[(f"bibkeep show keys.bib {typed}\t", ["bibkeep", "show", "keys.bib", key]) for typed, key in [
