@@ -66,7 +66,7 @@ pub fn cited_in(
 }
 
 /// The paths of the files that were read.
-type Known = HashMap<Text, bool>;
+type Known = HashMap<String, bool>;
 
 /// Adds the keys that the aux file with this name cites, and those that the aux files cite that it names.
 fn add_cited(
@@ -112,9 +112,10 @@ fn text_once(
     };
     // a pipe has no path of its own
     if let Some(whole) = found(fs::canonicalize(rt, path))? {
-        let whole = Text::from_vec(whole.into_string().into_bytes());
-        if known.insert(whole, true)?.is_some() {
-            return Ok(None);
+        match known.insert(whole.into_string(), true) {
+            Ok(None) => {}
+            Ok(Some(_)) => return Ok(None),
+            Err(_) => return Err(ErrorKind::OutOfMemory.into()),
         }
     }
     if is_input && !fs::metadata(rt, path)?.is_file() {
