@@ -52,11 +52,7 @@ pub fn citing(alloc: Global, command: Command, cited: Vec<Text>) -> Result<Comma
 /// The keys that the aux files with these names cite, in order, and those that the aux files cite that they name. Each file is
 /// read once. A file that is named by an aux file lies in the folder of the first one, and only regular files are read so: an
 /// aux file may come from a stranger.
-pub fn cited_in(
-    rt: &HostRuntime,
-    alloc: Global,
-    names: &[Text],
-) -> Result<Vec<Text>, AuxFault> {
+pub fn cited_in(rt: &HostRuntime, alloc: Global, names: &[Text]) -> Result<Vec<Text>, AuxFault> {
     let mut known = HashMap::new(alloc);
     let mut cited = Vec::new(alloc);
     'names: for name in names {
