@@ -129,29 +129,35 @@ fn text_once(
 fn add_paths(
     alloc: Global,
     paths: &mut Vec<Text>,
-    folder: &[u8],
+    folder: Option<&str>,
     names: &[Text],
 ) -> Result<(), AllocError> {
     'names: for name in names {
         // one more than the limit shows that it is passed
         if paths.len() <= INPUT_LIMIT + 1 {
-            let mut path = Vec::new(alloc);
-            if !name.as_slice().starts_with(b"/") {
-                path.extend_from_slice(folder)?;
-            }
-            path.extend_from_slice(name.as_slice())?;
-            paths.push(Text::from_vec(path))?;
+            paths.push(path_in(alloc, folder, name.as_slice())?)?;
         }
     }
     Ok(())
 }
 
-/// The folder in the path of a file, up to the last slash.
-fn folder_of(path: &[u8]) -> &[u8] {
-    match path.iter().rposition(|byte| *byte == b'/') {
-        Some(at) => path.split_at(at + 1).0,
-        None => b"",
+/// The path of the file with this name in this folder.
+fn path_in(alloc: Global, folder: Option<&str>, name: &[u8]) -> Result<Text, AllocError> {
+    let mut path = Vec::new(alloc);
+    if let Some(folder) = folder
+        && !name.starts_with(b"/")
+    {
+        path.extend_from_slice(folder.as_bytes())?;
+        path.extend_from_slice(b"/")?;
     }
+    path.extend_from_slice(name)?;
+    Ok(Text::from_vec(path))
+}
+
+/// The folder in the path of a file: what comes before its last slash, if it has one.
+fn folder_of(path: &[u8]) -> Option<&str> {
+    let (folder, _) = str::from_utf8(path).ok()?.rsplit_once('/')?;
+    Some(folder)
 }
 
 fn unread(alloc: Global, path: &[u8], kind: ErrorKind) -> AuxFault {
