@@ -50,7 +50,11 @@ fn cite(
     db.opens();
     let mut out = listed_text(alloc, db, cited.listed.as_slice())?;
     add_unknown(&mut out, keys, cited.unknown.as_slice())?;
-    Ok(listed(alloc, Text::from_vec(out), status_of(strict, cited.unknown.as_slice())))
+    Ok(listed(
+        alloc,
+        Text::from_vec(out),
+        status_of(strict, cited.unknown.as_slice()),
+    ))
 }
 
 /// The answer with this list and this status, and no message.

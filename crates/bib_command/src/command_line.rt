@@ -206,11 +206,7 @@ Examples:
         "2",
         "How many cited entries must refer to a parent so that it is listed too, from 1 to 65535",
     ))?
-    .arg(switch(
-        alloc,
-        "strict",
-        "Ends with status 1 if a key is unknown",
-    ))
+    .arg(switch(alloc, "strict", "Ends with status 1 if a key is unknown"))
 }
 
 fn labels<'a>(alloc: Global) -> Result<Command<'a>, AllocError>

@@ -52,11 +52,7 @@ pub fn citing(alloc: Global, command: Command, cited: Vec<Text>) -> Result<Comma
 /// The keys that the aux files with these names cite, in order, and those that the aux files cite that they name. Each file is
 /// read once. A file that is named by an aux file lies in the folder of the first one, and only regular files are read so: an
 /// aux file may come from a stranger.
-pub fn cited_in(
-    rt: &HostRuntime,
-    alloc: Global,
-    names: &[Text],
-) -> Result<Vec<Text>, AuxFault> {
+pub fn cited_in(rt: &HostRuntime, alloc: Global, names: &[Text]) -> Result<Vec<Text>, AuxFault> {
     let mut known = HashMap::new(alloc);
     let mut cited = Vec::new(alloc);
     'names: for name in names {
@@ -66,7 +62,7 @@ pub fn cited_in(
 }
 
 /// The paths of the files that were read.
-type Known = HashMap<Text, bool>;
+type Known = HashMap<String, bool>;
 
 /// Adds the keys that the aux file with this name cites, and those that the aux files cite that it names.
 fn add_cited(
@@ -112,9 +108,10 @@ fn text_once(
     };
     // a pipe has no path of its own
     if let Some(whole) = found(fs::canonicalize(rt, path))? {
-        let whole = Text::from_vec(whole.into_string().into_bytes());
-        if known.insert(whole, true)?.is_some() {
-            return Ok(None);
+        match known.insert(whole.into_string(), true) {
+            Ok(None) => {}
+            Ok(Some(_)) => return Ok(None),
+            Err(_) => return Err(ErrorKind::OutOfMemory.into()),
         }
     }
     if is_input && !fs::metadata(rt, path)?.is_file() {
@@ -132,29 +129,35 @@ fn text_once(
 fn add_paths(
     alloc: Global,
     paths: &mut Vec<Text>,
-    folder: &[u8],
+    folder: Option<&str>,
     names: &[Text],
 ) -> Result<(), AllocError> {
     'names: for name in names {
         // one more than the limit shows that it is passed
         if paths.len() <= INPUT_LIMIT + 1 {
-            let mut path = Vec::new(alloc);
-            if !name.as_slice().starts_with(b"/") {
-                path.extend_from_slice(folder)?;
-            }
-            path.extend_from_slice(name.as_slice())?;
-            paths.push(Text::from_vec(path))?;
+            paths.push(path_in(alloc, folder, name.as_slice())?)?;
         }
     }
     Ok(())
 }
 
-/// The folder in the path of a file, up to the last slash.
-fn folder_of(path: &[u8]) -> &[u8] {
-    match path.iter().rposition(|byte| *byte == b'/') {
-        Some(at) => path.split_at(at + 1).0,
-        None => b"",
+/// The path of the file with this name in this folder.
+fn path_in(alloc: Global, folder: Option<&str>, name: &[u8]) -> Result<Text, AllocError> {
+    let mut path = Vec::new(alloc);
+    if let Some(folder) = folder
+        && !name.starts_with(b"/")
+    {
+        path.extend_from_slice(folder.as_bytes())?;
+        path.extend_from_slice(b"/")?;
     }
+    path.extend_from_slice(name)?;
+    Ok(Text::from_vec(path))
+}
+
+/// The folder in the path of a file: what comes before its last slash, if it has one.
+fn folder_of(path: &[u8]) -> Option<&str> {
+    let (folder, _) = str::from_utf8(path).ok()?.rsplit_once('/')?;
+    Some(folder)
 }
 
 fn unread(alloc: Global, path: &[u8], kind: ErrorKind) -> AuxFault {

@@ -71,7 +71,12 @@ pub fn end_without_memory<E: Write>(errors: &mut Tap<E>) -> u8
 pub fn end_long_aux<E: Write>(errors: &mut Tap<E>, path: &[u8]) -> u8
     ensures { result ≡ 1 }
 {
-    end_in(errors, b"bibkeep: 9 FileTooLong at 16777216", path, status::REFUSED)
+    end_in(
+        errors,
+        b"bibkeep: 9 FileTooLong at 16777216",
+        path,
+        status::REFUSED,
+    )
 }
 
 /// The aux file at this path could not be read.

@@ -77,7 +77,7 @@ pub(crate) fn faults_of_limits(word: &[u8]) -> Option<Page>
         return Some(Page {
             number: b"9",
             name: b"FileTooLong",
-            text: b"A file has more than 16,777,216 bytes, which is the offset; or an edit would make it so long, without an offset. `edit`\nand `import` report 9 for their input too, with the same message: check the size of the file and of the input.\n\n  $ head -c 16777217 /dev/zero | bibkeep cat\n  bibkeep: 9 FileTooLong at 16777216\n\nSplit the file.\n",
+            text: b"A file has more than 16,777,216 bytes, which is the offset; or an edit would make it so long, without an offset. `edit`\nand `import` report 9 for their input too, with the same message: check the size of the file and of the input. Of an aux\nfile the message names it: `bibkeep: 9 FileTooLong at 16777216 in paper.aux`. The output of `extract` can be longer than the\nfile, by a line feed for each item; if that is too long, the message has no offset.\n\n  $ head -c 16777217 /dev/zero | bibkeep cat\n  bibkeep: 9 FileTooLong at 16777216\n\nSplit the file.\n",
         });
     }
     if is_asked(word, b"10", b"Memory") {
@@ -98,7 +98,7 @@ pub(crate) fn faults_of_questions(word: &[u8]) -> Option<Page>
         return Some(Page {
             number: b"11",
             name: b"NoSuchEntry",
-            text: b"No entry has the key. `show`, `names`, `labels`, `json` and `ris` say so; `cite` lists unknown keys and refuses none. An empty\nkey is never found.\n\n  $ printf '@misc{a, t = 1, t = 2}\\n@misc{b, crossref = {c}}\\n@misc{c}\\n' > f.bib\n  $ bibkeep show f.bib q\n  bibkeep: 11 NoSuchEntry\n\n`bibkeep cite F '*'` lists the keys.\n",
+            text: b"No entry has the key. `show`, `names`, `labels`, `json`, `ris` and `extract` say so, and `extract` names the first such key;\n`cite` lists unknown keys and refuses none, but with `--strict` its status is 1. An empty key is never found.\n\n  $ printf '@misc{a, t = 1, t = 2}\\n@misc{b, crossref = {c}}\\n@misc{c}\\n' > f.bib\n  $ bibkeep show f.bib q\n  bibkeep: 11 NoSuchEntry\n  $ bibkeep extract f.bib a q\n  bibkeep: 11 NoSuchEntry in q\n\n`bibkeep cite F '*'` lists the keys.\n",
         });
     }
     if is_asked(word, b"12", b"BadSplice") {

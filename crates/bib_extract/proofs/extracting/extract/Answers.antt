@@ -57,5 +57,5 @@ returns-clause-fault g c =
     (λ long r reads. (
       c.in_ok-marks.ensures.known r reads,
       subst (λ (t : Text). file_limit < length t)
-      (written c.in_ok-text.text c.as_slice.result.now (kept r c.args.keys.now) r.items (c.in_ok-text.ensures r reads) (c.as_slice.ensures.value ∙ c.in_ok-marks.ensures.marks r reads)) long,
+          (written c.in_ok-text.text c.as_slice.result.now (kept r c.args.keys.now) r.items (c.in_ok-text.ensures r reads) (c.as_slice.ensures.value ∙ c.in_ok-marks.ensures.marks r reads)) long,
     ))
