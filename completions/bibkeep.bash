@@ -20,7 +20,7 @@ _bibkeep() {
     for ((i = 1; i < ${#words[@]}; i++)); do
         case $has_ended${words[i]} in
             --) has_ended=yes ;;
-            --min-crossrefs | --steps | --depth) ((i += 1)) ;;
+            --min-crossrefs | --steps | --depth | --ignore) ((i += 1)) ;;
             -*) ;;
             *) own+=("${words[i]}") ;;
         esac
@@ -35,6 +35,7 @@ _bibkeep() {
     fi
     if [[ $current == -* && -z $has_ended ]]; then
         case $command in
+            lint) options='--ignore --hints --help' ;;
             cite) options='--min-crossrefs --hints --help' ;;
             show | labels | json | names | newkeys) options='--depth --hints --help' ;;
             ris) options='--depth --dropped --hints --help' ;;
