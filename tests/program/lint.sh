@@ -35,9 +35,9 @@ finds '@misc(a}b, t = 1)@misc{c{d}' 'linted.bib:1:7: warning: key a}b is none th
 
 # Findings whose code is ignored are left out, and do not count; a code that no finding has changes nothing.
 given linted.bib '@misc{a, t = u, t = v}@misc{A}'
-when lint linted.bib --ignore undefined-macro; ends_with 1; prints 'linted.bib:1:17: warning: field t is there already [repeated-field]\nlinted.bib:1:30: warning: key A is that of an earlier entry [repeated-key]\n'; says_nothing
+when lint linted.bib --ignore undefined-macro; ends_with 1; prints 'linted.bib:1:17: warning: field t is there already [repeated-field]\nlinted.bib:1:29: warning: key A is that of an earlier entry [repeated-key]\n'; says_nothing
 when lint --ignore repeated-field linted.bib --ignore repeated-key --ignore=undefined-macro; ends_with 0; writes_nothing; says_nothing
-when lint linted.bib --ignore repeated --ignore '' --ignore undefined-macro; ends_with 1; prints 'linted.bib:1:17: warning: field t is there already [repeated-field]\nlinted.bib:1:30: warning: key A is that of an earlier entry [repeated-key]\n'; says_nothing
+when lint linted.bib --ignore repeated --ignore '' --ignore undefined-macro; ends_with 1; prints 'linted.bib:1:17: warning: field t is there already [repeated-field]\nlinted.bib:1:29: warning: key A is that of an earlier entry [repeated-key]\n'; says_nothing
 when lint newline.bib --ignore 6 --ignore UnbalancedBrace; ends_with 1; prints 'newline.bib:1:16: error: 6 UnbalancedBrace\n'; says_nothing
 
 # A file that cannot be opened has one finding, an error.
