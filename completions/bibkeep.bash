@@ -20,7 +20,7 @@ _bibkeep() {
     for ((i = 1; i < ${#words[@]}; i++)); do
         case $has_ended${words[i]} in
             --) has_ended=yes ;;
-            --min-crossrefs | --steps | --depth | --aux) ((i += 1)) ;;
+            --min-crossrefs | --steps | --depth | --aux | --ignore) ((i += 1)) ;;
             -*) ;;
             *) own+=("${words[i]}") ;;
         esac
@@ -39,6 +39,7 @@ _bibkeep() {
     if [[ $current == -* && -z $has_ended ]]; then
         case $command in
             entry) options='--at --hints --help' ;;
+            lint) options='--ignore --hints --help' ;;
             cite) options='--min-crossrefs --strict --aux --hints --help' ;;
             labels | json) options='--depth --aux --hints --help' ;;
             show | names | newkeys) options='--depth --hints --help' ;;

@@ -204,7 +204,7 @@ READING = [
     Case(("cite", FILE, "--min-crossrefs", "3", "c1", "zz", "c2", "C1"), PARENTS, output=b"c1\nc2\n? zz\n"),
     Case(("labels", FILE, "Lam86", "knu84"), BOOKS, output=b"Knu84\tLam86\nLam86\tKnu84\n"),
     Case(("names", FILE, "Lam86", "{f. }{vv~}{ll}"), BOOKS, output=b"D.~E. Knuth\n"),
-    Case(("lint", FILE), b"@misc{a, t = u}\n@misc{A}", status=1, output=b"f.bib:1:14: warning: macro u is not defined\nf.bib:2:7: warning: key A is that of an earlier entry\n"),
+    Case(("lint", FILE), b"@misc{a, t = u}\n@misc{A}", status=1, output=b"f.bib:1:14: warning: macro u is not defined [undefined-macro]\nf.bib:2:7: warning: key A is that of an earlier entry [repeated-key]\n"),
     Case(("lint", FILE), b"@misc{a,\n t = \"}\"}", status=1, output=b"f.bib:2:7: error: 6 UnbalancedBrace\n"),
     Case(("json", FILE, "knu84"), BOOKS, output=b'{"type":"misc","key":"Knu84","parent":"Lam86","fields":{"author":"Leslie Lamport","year":"1986"}}\n'),
     Case(("newkeys", FILE), BOOKS, output=b"Lam86\tKnu84\nKnu84\tLam86\n"),

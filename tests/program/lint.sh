@@ -5,33 +5,40 @@ finds() { given linted.bib "$1"; when lint linted.bib; case="lint of $1"; ends_w
 finds_nothing() { given linted.bib "$1"; when lint linted.bib; case="lint of $1"; ends_with 0; writes_nothing; says_nothing; }
 
 # A finding is a line with the file's name, the line, the column in bytes, and what is found.
-when lint reports.bib; ends_with 1; prints 'reports.bib:1:14: warning: macro u is not defined\nreports.bib:1:17: warning: field T is there already\nreports.bib:1:29: warning: key A is that of an earlier entry\n'; says_nothing
-when lint ./reports.bib; ends_with 1; prints './reports.bib:1:14: warning: macro u is not defined\n./reports.bib:1:17: warning: field T is there already\n./reports.bib:1:29: warning: key A is that of an earlier entry\n'; says_nothing
+when lint reports.bib; ends_with 1; prints 'reports.bib:1:14: warning: macro u is not defined [undefined-macro]\nreports.bib:1:17: warning: field T is there already [repeated-field]\nreports.bib:1:29: warning: key A is that of an earlier entry [repeated-key]\n'; says_nothing
+when lint ./reports.bib; ends_with 1; prints './reports.bib:1:14: warning: macro u is not defined [undefined-macro]\n./reports.bib:1:17: warning: field T is there already [repeated-field]\n./reports.bib:1:29: warning: key A is that of an earlier entry [repeated-key]\n'; says_nothing
 finds_nothing ''
 finds_nothing '@string{p = {x}}@string{q = p}@preamble{p}@comment @misc{a, t = q}'
 
 # Lines are counted from the file's first byte, and each begins after a line feed.
-finds 'front\n\n@misc{a,\n  t = u,\n  T = 1}\n\n@misc{A}' 'linted.bib:4:7: warning: macro u is not defined\nlinted.bib:5:3: warning: field T is there already\nlinted.bib:7:7: warning: key A is that of an earlier entry\n'
-finds '@misc{a,\r\n  t = u}\r\n' 'linted.bib:2:7: warning: macro u is not defined\n'
-finds '@misc{\303\251\303\251, t = u}' 'linted.bib:1:17: warning: macro u is not defined\n'
+finds 'front\n\n@misc{a,\n  t = u,\n  T = 1}\n\n@misc{A}' 'linted.bib:4:7: warning: macro u is not defined [undefined-macro]\nlinted.bib:5:3: warning: field T is there already [repeated-field]\nlinted.bib:7:7: warning: key A is that of an earlier entry [repeated-key]\n'
+finds '@misc{a,\r\n  t = u}\r\n' 'linted.bib:2:7: warning: macro u is not defined [undefined-macro]\n'
+finds '@misc{\303\251\303\251, t = u}' 'linted.bib:1:17: warning: macro u is not defined [undefined-macro]\n'
 
 # Of a value with several parts each use has its own place.
-finds '@misc{a, t = u # {x}\n # v # jan # w}' 'linted.bib:1:14: warning: macro u is not defined\nlinted.bib:2:4: warning: macro v is not defined\nlinted.bib:2:14: warning: macro w is not defined\n'
-finds '@string{m = m}@string{m = M # n}@preamble{m # o}' 'linted.bib:1:13: warning: macro m is used in its own definition\nlinted.bib:1:27: warning: macro M is used in its own definition\nlinted.bib:1:31: warning: macro n is not defined\nlinted.bib:1:47: warning: macro o is not defined\n'
+finds '@misc{a, t = u # {x}\n # v # jan # w}' 'linted.bib:1:14: warning: macro u is not defined [undefined-macro]\nlinted.bib:2:4: warning: macro v is not defined [undefined-macro]\nlinted.bib:2:14: warning: macro w is not defined [undefined-macro]\n'
+finds '@string{m = m}@string{m = M # n}@preamble{m # o}' 'linted.bib:1:13: warning: macro m is used in its own definition [own-macro]\nlinted.bib:1:27: warning: macro M is used in its own definition [own-macro]\nlinted.bib:1:31: warning: macro n is not defined [undefined-macro]\nlinted.bib:1:47: warning: macro o is not defined [undefined-macro]\n'
 
 # Crossrefs are found at the field that counts.
-when lint crossrefs.bib; ends_with 1; prints 'crossrefs.bib:1:19: warning: crossref a names its own entry\ncrossrefs.bib:1:49: warning: parent b stands before its child\ncrossrefs.bib:1:70: warning: crossref q names no entry\n'; says_nothing
+when lint crossrefs.bib; ends_with 1; prints 'crossrefs.bib:1:19: warning: crossref a names its own entry [own-parent]\ncrossrefs.bib:1:49: warning: parent b stands before its child: BibTeX finds this parent only if it is cited itself or named by an earlier child [early-parent]\ncrossrefs.bib:1:70: warning: crossref q names no entry [missing-parent]\n'; says_nothing
 finds_nothing '@misc{a, crossref = {}}@misc{b, crossref = { \n}}'
 finds_nothing '@string{crossref = {q}}@misc{a, t = crossref}'
-finds '@misc{a, crossref = {q}, CROSSREF = {a}}' 'linted.bib:1:21: warning: crossref q names no entry\nlinted.bib:1:26: warning: field CROSSREF is there already\n'
+finds '@misc{a, crossref = {q}, CROSSREF = {a}}' 'linted.bib:1:21: warning: crossref q names no entry [missing-parent]\nlinted.bib:1:26: warning: field CROSSREF is there already [repeated-field]\n'
 
 # A parent that has a parent itself; in a ring of two nothing is lost.
-finds '@misc{a, crossref = {b}}@misc{b, crossref = {c}}@misc{c}' 'linted.bib:1:21: warning: parent b has a parent itself, whose fields are not inherited\n'
-finds '@misc{a, crossref = {b}}@misc{b, crossref = {a}}' 'linted.bib:1:45: warning: parent a stands before its child\n'
+finds '@misc{a, crossref = {b}}@misc{b, crossref = {c}}@misc{c}' 'linted.bib:1:21: warning: parent b has a parent itself, whose fields are not inherited [nested-parent]\n'
+finds '@misc{a, crossref = {b}}@misc{b, crossref = {a}}' 'linted.bib:1:45: warning: parent a stands before its child: BibTeX finds this parent only if it is cited itself or named by an earlier child [early-parent]\n'
 
 # Keys that are read, and that no edit could write.
-finds '@misc{}' 'linted.bib:1:7: warning: the entry has no key\n'
-finds '@misc(a}b, t = 1)@misc{c{d}' 'linted.bib:1:7: warning: key a}b is none that an edit could write\nlinted.bib:1:24: warning: key c{d is none that an edit could write\n'
+finds '@misc{}' 'linted.bib:1:7: warning: the entry has no key [no-key]\n'
+finds '@misc(a}b, t = 1)@misc{c{d}' 'linted.bib:1:7: warning: key a}b is none that an edit could write [odd-key]\nlinted.bib:1:24: warning: key c{d is none that an edit could write [odd-key]\n'
+
+# Findings whose code is ignored are left out, and do not count; a code that no finding has changes nothing.
+given linted.bib '@misc{a, t = u, t = v}@misc{A}'
+when lint linted.bib --ignore undefined-macro; ends_with 1; prints 'linted.bib:1:17: warning: field t is there already [repeated-field]\nlinted.bib:1:29: warning: key A is that of an earlier entry [repeated-key]\n'; says_nothing
+when lint --ignore repeated-field linted.bib --ignore repeated-key --ignore=undefined-macro; ends_with 0; writes_nothing; says_nothing
+when lint linted.bib --ignore repeated --ignore '' --ignore undefined-macro; ends_with 1; prints 'linted.bib:1:17: warning: field t is there already [repeated-field]\nlinted.bib:1:29: warning: key A is that of an earlier entry [repeated-key]\n'; says_nothing
+when lint newline.bib --ignore 6 --ignore UnbalancedBrace; ends_with 1; prints 'newline.bib:1:16: error: 6 UnbalancedBrace\n'; says_nothing
 
 # A file that cannot be opened has one finding, an error.
 when lint newline.bib; ends_with 1; prints 'newline.bib:1:16: error: 6 UnbalancedBrace\n'; says_nothing
