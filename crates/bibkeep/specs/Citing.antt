@@ -1,11 +1,10 @@
 -- How a command ends that has the keys of aux files.
-use Rattle.std.specs.Prelude.{ℕ, ◌≡◌, List, ◌++◌, take, drop}
+use Rattle.std.specs.Prelude.{ℕ, ◌≡◌, false, List, ◌++◌, take, drop}
 use Rattle.bib_spec.specs.Text.{Text}
 use Rattle.aux_text.specs.Citations.{with_cited}
 use Rattle.bib_words.specs.declared.commands.Command.{Command}
 use Rattle.bib_words.specs.Command.{has_any}
 use Rattle.bibkeep.specs.Ending.{EndsFor}
-use Rattle.std.specs.Prelude.{false}
 
 -- the command with these keys after its own; if `*` is among them, it is the only key
 abbrev pub citing : Command → List Text → Command

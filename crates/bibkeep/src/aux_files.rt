@@ -1,6 +1,7 @@
 //! The keys that the aux files of a document cite.
 
 ghost use Rattle.std.specs.Prelude.{◌≡◌, IfOk};
+ghost use Rattle.bib_words.specs.Command.{has_any};
 ghost use Rattle.bibkeep.specs.Citing.{citing};
 
 use crate::disk::found;
@@ -34,6 +35,13 @@ impl From<AllocError> for AuxFault {
     fn from(_error: AllocError) -> Self {
         AuxFault::Memory
     }
+}
+
+/// Whether there are names of aux files.
+pub fn names_any(names: &[Text]) -> bool
+    ensures { result ≡ has_any names.now }
+{
+    !names.is_empty()
 }
 
 /// The command with these keys after its own. If `*` is among them, it is the only key.

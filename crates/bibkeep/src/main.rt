@@ -18,7 +18,7 @@ mod opening;
 mod saying;
 mod storing;
 
-use aux_files::{AuxFault, cited_in, citing};
+use aux_files::{AuxFault, cited_in, citing, names_any};
 use bib_command::{Request, parse_request};
 use bib_files::{Folder, Paths};
 use bib_run::{Tap, WRITE_FAULT, run};
@@ -67,7 +67,7 @@ fn answer(rt: &HostRuntime, alloc: Global, command: Command, hints: bool) -> u8
     requires { IsCommand command }
     ensures { EndsCiting command result }
 {
-    if command.aux.as_slice().is_empty() {
+    if !names_any(command.aux.as_slice()) {
         return perform(rt, alloc, &command, hints);
     }
     match cited_in(rt, alloc, command.aux.as_slice()) {
