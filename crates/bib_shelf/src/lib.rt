@@ -1,0 +1,14 @@
+//! Opens several files as one database. It knows how the files lie in one text, with a seam between two of them, and not what
+//! the database is asked. It promises the database of the shelf's text; or which of the files is at fault, and where.
+#![tactic(auto)]
+
+mod fault;
+mod joining;
+mod laws;
+mod locating;
+mod opening;
+
+pub use fault::ShelfFault;
+pub use joining::{Joined, seam};
+pub use laws::a_shelf_has_one_reading;
+pub use opening::Shelf;

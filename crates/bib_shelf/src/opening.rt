@@ -1,0 +1,163 @@
+//! Several files that are open as one database.
+
+ghost use Rattle.std.specs.Prelude.{◌≡◌, ◌<◌, ◌≤◌, ◌+◌, ◌-◌, List, length, take, drop, Some, slice_get, IfErr, OnOk};
+ghost use Rattle.bib_spec.specs.Bytes.{file_limit};
+ghost use Rattle.bib_spec.specs.Fault.{IsReadFault};
+ghost use Rattle.shelf_spec.specs.Numbers.{first_place};
+ghost use Rattle.bib_spec.specs.Text.{Text as FileText};
+ghost use Rattle.bib_store.specs.Readings.{IsOpenFault};
+ghost use Rattle.bib_shelf.specs.Joined.{AreJoined, text_of, spans_from};
+ghost use Rattle.bib_shelf.specs.Faults.{HaveTheirPlaces, RefusesShelf};
+
+use crate::fault::ShelfFault;
+use crate::joining::Joined;
+use crate::locating::locate;
+use bib_scan::{FILE_LIMIT, ReadFault, Seq, read};
+use bib_store::{Database, ItemList};
+use std::alloc::Global;
+use std::marker::Model;
+
+/// The bytes from one place of the text up to another.
+fn bytes_between(text: &[u8], start: usize, end: usize) -> &[u8]
+    requires order { start ≤ end }
+    requires within { end ≤ length text.now }
+    ensures { result.now ≡ take (end - start) (drop start text.now) }
+{
+    text.split_at(start).1.split_at(end - start).0
+}
+
+/// The fault of file `i`, which was read by itself.
+fn fault_of(i: usize, fault: ReadFault) -> ShelfFault
+    ensures { (files : List FileText) (text : FileText) → slice_get files i ≡ Some text → HaveTheirPlaces files i → first_place i files + length text ≤ file_limit
+        → IsReadFault text fault.kind fault.place → RefusesShelf files result.kind result.place result.file }
+{
+    if fault.is_memory() {
+        return ShelfFault::MEMORY;
+    }
+    ShelfFault::in_file(i, fault)
+}
+
+/// Reads file `i` by itself, if it ends in the shelf within the limit.
+fn read_file(alloc: Global, joined: &Joined, i: usize) -> Result<(), ShelfFault>
+    requires joined { (files : List FileText) × AreJoined files joined.now }
+    requires file { i < length joined.now.spans }
+    ensures read { OnOk result ((files : List FileText) → AreJoined files joined.now → HaveTheirPlaces files i → HaveTheirPlaces files (i + 1)) }
+    ensures fault { IfErr result (λ fault. (files : List FileText) → AreJoined files joined.now → HaveTheirPlaces files i → RefusesShelf files fault.kind fault.place fault.file) }
+{
+    let (start, end) = joined.spans.as_slice()[i];
+    if end > FILE_LIMIT {
+        return Err(ShelfFault {
+            kind: ReadFault::TOO_LONG.kind,
+            place: FILE_LIMIT.saturating_sub(start),
+            file: i,
+        });
+    }
+    let file = bytes_between(joined.text.as_slice(), start, end);
+    match read(alloc, file) {
+        Ok(_) => Ok(()),
+        Err(fault) => Err(fault_of(i, fault)),
+    }
+}
+
+/// Reads each file by itself, in order, up to the first that is at fault.
+fn read_each(alloc: Global, joined: &Joined) -> Result<(), ShelfFault>
+    requires { (files : List FileText) × AreJoined files joined.now }
+    ensures read { OnOk result ((files : List FileText) → AreJoined files joined.now → HaveTheirPlaces files (length files)) }
+    ensures fault { IfErr result (λ fault. (files : List FileText) → AreJoined files joined.now → RefusesShelf files fault.kind fault.place fault.file) }
+{
+    'files: for i in 0..joined.spans.as_slice().len() {
+        read_file(alloc, joined, i)?;
+    }
+    Ok(())
+}
+
+/// The fault of the shelf's text, as one of the file that has it.
+fn located(spans: &[(usize, usize)], fault: ReadFault) -> ShelfFault
+    ensures { (files : List FileText) → spans.now ≡ spans_from 0 files → HaveTheirPlaces files (length files) → IsOpenFault (text_of files) fault.kind fault.place
+        → RefusesShelf files result.kind result.place result.file }
+{
+    if fault.is_memory() {
+        return ShelfFault::MEMORY;
+    }
+    let (file, place) = locate(spans, fault.place);
+    ShelfFault {
+        kind: fault.kind,
+        place,
+        file,
+    }
+}
+
+/// Several files that are open as one database: the database of the shelf's text. Entries have the numbers that they have in the
+/// shelf. A contract sees the text, and where each file lies in it.
+#[derive(Drop)]
+pub struct Shelf<L: ItemList> {
+    database: Database<L>,
+    spans: Seq<(usize, usize)>,
+}
+
+impl<L: ItemList> Model for Shelf<L> {
+    ghost use Rattle.bib_shelf.specs.declared.joining.Joined.{Joined as JoinedFiles};
+
+    ghost Value = { JoinedFiles };
+
+    ghost view = { λ s. record { text = s.database; spans = s.spans } };
+}
+
+impl<L: ItemList> Shelf<L> {
+    ghost use Rattle.std.specs.Prelude.{◌≡◌, ◌<◌, List, [], length, map, IfOk, IfErr, OnOk};
+    ghost use Rattle.bib_spec.specs.Text.{Text as FileText};
+    ghost use Rattle.bib_shelf.specs.Joined.{AreJoined, located_in};
+    ghost use Rattle.bib_shelf.specs.Faults.{AreAccepted, RefusesShelf};
+
+    /// Opens these files as one database. `empty` is a list without items, which keeps the items of all files from now on. It
+    /// takes time and memory in the length of all files, which are copied. It is refused at the first file that has no reading (1
+    /// to 7) or ends in the shelf's text past 16,777,216 bytes (9); then with 8 at the first value whose raw text is longer than
+    /// 1,048,576 bytes; and with 10 if memory runs out.
+    pub fn open(alloc: Global, files: &[&[u8]], empty: L) -> Result<Self, ShelfFault>
+        requires { L.items empty ≡ [] }
+        ensures opened { IfOk result (AreJoined (map (λ file. file.now) files.now)) }
+        ensures files { OnOk result (AreAccepted (map (λ file. file.now) files.now)) }
+        ensures fault { IfErr result (λ fault. RefusesShelf (map (λ file. file.now) files.now) fault.kind fault.place fault.file) }
+    {
+        let joined = Joined::of(alloc, files)?;
+        Shelf::open_joined(alloc, joined, empty)
+    }
+
+    /// Opens these files as `open` does, without a copy of their text.
+    pub fn open_joined(alloc: Global, joined: Joined, empty: L) -> Result<Self, ShelfFault>
+        requires joined { (files : List FileText) × AreJoined files joined }
+        requires empty { L.items empty ≡ [] }
+        ensures opened { IfOk result (λ shelf. shelf ≡ joined) }
+        ensures files { OnOk result ((files : List FileText) → AreJoined files joined → AreAccepted files) }
+        ensures fault { IfErr result (λ fault. (files : List FileText) → AreJoined files joined → RefusesShelf files fault.kind fault.place fault.file) }
+    {
+        read_each(alloc, &joined)?;
+        let Joined { text, spans } = joined;
+        match Database::open_file(alloc, text.into_vec(), empty) {
+            Ok(database) => Ok(Shelf { database, spans }),
+            Err(fault) => Err(located(spans.as_slice(), fault)),
+        }
+    }
+
+    /// The database of the shelf's text. It takes no memory.
+    pub fn database(&self) -> &Database<L>
+        ensures { result.now ≡ self.now.text }
+    {
+        &self.database
+    }
+
+    /// How many files there are. It takes no memory.
+    pub fn file_count(&self) -> usize
+        ensures { result ≡ length self.now.spans }
+    {
+        self.spans.as_slice().len()
+    }
+
+    /// The file with this place of the shelf's text, and the place in that file; in a seam, the end of the file before it. Places
+    /// are in bytes. It takes a search in the list of files, and no memory.
+    pub fn locate(&self, place: usize) -> (usize, usize)
+        ensures { (files : List FileText) → AreJoined files self.now → result ≡ located_in files place }
+    {
+        locate(self.spans.as_slice(), place)
+    }
+}
