@@ -70,6 +70,7 @@ when cite whole.bib --aux thesis/ring.aux --aux paper.aux; ends_with 0; prints '
 # An aux file that is missing, too long, or no regular file although another names it.
 when cite whole.bib --aux none.aux; ends_with 3; writes_nothing; says 'bibkeep: read fault in none.aux'
 when cite whole.bib --aux .; ends_with 3; writes_nothing; says 'bibkeep: read fault in .'
+when cite whole.bib --hints --aux .; ends_with 3; complains_of '  .: it is a folder'
 given thesis/lost.aux '\\@input{none.aux}\n'
 when cite whole.bib --aux thesis/lost.aux; ends_with 3; writes_nothing; says 'bibkeep: read fault in thesis/none.aux'
 when cite whole.bib --hints --aux thesis/lost.aux; ends_with 3; complains_of '  thesis/none.aux: there is no such file'

@@ -6,7 +6,8 @@ ghost use Rattle.bibkeep.specs.Citing.{citing};
 
 use crate::disk::found;
 use aux_text::{Aux, with_cited};
-use bib_run::{Tap, read_up_to};
+use bib_run::{SourceFault, Tap, read_up_to};
+use bib_streams::Heard;
 use bib_text::{Seq, Text, copied};
 use bib_words::Command;
 use std::alloc::{AllocError, Global};
@@ -125,11 +126,14 @@ fn text_once(
     if is_input && !fs::metadata(rt, path)?.is_file() {
         return Err(ErrorKind::InvalidInput.into());
     }
-    let mut source = Tap::new(File::open(rt, path)?);
+    let mut source = Tap::new(Heard::new(File::open(rt, path)?));
     match read_up_to(alloc, &mut source, AUX_LIMIT + 1) {
         Ok(text) => Ok(Some(text)),
-        Err(_) if source.failed() => Err(ErrorKind::Other.into()),
-        Err(_) => Err(ErrorKind::OutOfMemory.into()),
+        Err(SourceFault::OutOfMemory) => Err(ErrorKind::OutOfMemory.into()),
+        Err(SourceFault::Failed) => match source.into_inner().error() {
+            Some(error) => Err(error),
+            None => Err(ErrorKind::InvalidInput.into()),
+        },
     }
 }
 
