@@ -371,7 +371,7 @@ explain_named name is =
     (skip (bytes_eq name (codes "lint")) Lint _ refl
     (skip (bytes_eq name (codes "check")) (Asks Check) _ refl
     (skip (bytes_eq name (codes "cat")) Cat _ refl
-    is))))))))))))))))))
+    is)))))))))))))))))))
 
 pub one-answer : one_answer
 one-answer command file journal input a b other is also =
