@@ -1,0 +1,4 @@
+pub mod Exports
+pub mod Held
+pub mod Reports
+pub mod Words
