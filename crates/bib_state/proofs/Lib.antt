@@ -1,1 +1,2 @@
+mod KeyLines
 mod StepLemmas

@@ -124,7 +124,7 @@ fn keys_of(alloc: Global, db: &Database<Paged>) -> Result<Text, AllocError>
     ensures { IfOk result (λ text. OfReading db.now (λ r. text ≡ key_lines (keys_of (entries_of r)))) }
 {
     let mut keys = Vec::new(alloc);
-    'entry: for n in 0..db.entry_count() {
+    'line: for n in 0..db.entry_count() {
         add_key(&mut keys, db.entry(n).key())?;
     }
     Ok(Text::from_vec(keys))

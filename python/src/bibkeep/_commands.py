@@ -54,7 +54,7 @@ def run(
     )
     answer = Answer(status, output, message, file, new)
     if check and fault.number != 0:
-        raise exception_of(fault)
+        raise exception_of(fault, input if 61 <= fault.number <= 63 else journal if fault.number == 53 else data)
     return answer
 
 

@@ -4,7 +4,9 @@ from __future__ import annotations
 
 import ctypes
 import os
+import platform
 from ctypes import POINTER, byref, c_char_p, c_int, c_size_t, c_uint, c_void_p
+from contextlib import suppress
 from functools import lru_cache
 from struct import Struct
 from typing import Optional, Sequence, Tuple
@@ -55,11 +57,22 @@ class Options(ctypes.Structure):
     ]
 
 
+def _expect_processor() -> None:
+    """Fails on a processor for which the library is not compiled: x86-64 without SSE 4.2."""
+    if platform.machine() != "x86_64":
+        return
+    with suppress(OSError), open("/proc/cpuinfo", encoding="ascii", errors="replace") as about:
+        flags = next((line.split() for line in about if line.startswith("flags")), None)
+        if flags is not None and not {"sse4_2", "popcnt"} <= set(flags):
+            raise ImportError("bibkeep needs a processor of the level x86-64-v2 (SSE 4.2)")
+
+
 def _load() -> ctypes.CDLL:
     """The shared library beside this file, or the one that BIBKEEP_LIBRARY names."""
     path = os.environ.get("BIBKEEP_LIBRARY") or os.path.join(
         os.path.dirname(os.path.abspath(__file__)), "libbibkeep.so.0"
     )
+    _expect_processor()
     lib = ctypes.CDLL(path)
     handle, fault, lent = c_void_p, POINTER(Fault), Lent
     for name, result, arguments in (
@@ -133,8 +146,8 @@ def _taken(given: Given) -> bytes:
     return ctypes.string_at(given.data, given.size) if given.size else b""
 
 
-def exception_of(fault: Fault) -> Exception:
-    """The exception of a fault that was reported."""
+def exception_of(fault: Fault, data: Optional[bytes] = None) -> Exception:
+    """The exception of a fault that was reported. ``data`` is what its offset counts in, if that is known."""
     name: bytes = _lib.bibkeep_error_name(fault.number)
     return error_of(
         fault.number,
@@ -142,6 +155,7 @@ def exception_of(fault: Fault) -> Exception:
         fault.offset if fault.has_offset else None,
         fault.line or None,
         fault.done,
+        data,
     )
 
 
@@ -164,7 +178,7 @@ class Handle:
         fault = Fault()
         lent = None if journal is None else byref(_lent(journal))
         if _lib.bibkeep_open(self._at, _lent(file), lent, byref(fault)):
-            raise exception_of(fault)
+            raise exception_of(fault, journal if fault.number == 53 else file)
 
     def close(self) -> None:
         _lib.bibkeep_close(self._at)
