@@ -1,5 +1,5 @@
 -- What calls say of themselves to C. (dialect)
-use Rattle.std.specs.Prelude.{◌≡◌, ℕ, Option, Some, None, Result, Ok, Err}
+use Rattle.std.specs.Prelude.{ℕ, Option, Some, None}
 use Rattle.bib_state.specs.declared.fault.CallFault.{CallFault}
 use Rattle.bib_state.specs.declared.performing.Turned.{Turned}
 use Rattle.bib_state.specs.declared.performing.Scripted.{Scripted}
@@ -23,11 +23,6 @@ report_of fault = placed (call_number fault) (call_place fault)
 abbrev pub fault_report : Option CallFault → Report
 fault_report None = done
 fault_report (Some fault) = report_of fault
-
--- the call was done or refused
-abbrev pub call_report : Result (Unit {0}) CallFault → Report
-call_report (Ok _) = done
-call_report (Err fault) = report_of fault
 
 -- so many steps were undone or redone
 abbrev pub turned_report : Turned → Report

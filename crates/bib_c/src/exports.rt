@@ -1,29 +1,22 @@
 //! The functions that C can call. Each takes what is behind the handle out, makes one call, and puts it back.
 
-ghost use Rattle.std.specs.Prelude.{◌≡◌, ◌≢◌, Some, None, true, option_map, OnOk, OnErr, IfErr};
+ghost use Rattle.std.specs.Prelude.{◌≡◌, ◌≢◌, Some, None, true, option_map};
 ghost use Rattle.bib_spec.specs.Records.{IsDepth};
 ghost use Rattle.bib_data.specs.declared.request.Request.TheVariants.{Undo, Redo};
 ghost use Rattle.bib_journal.specs.Session.{Begins, Ends, RefusesEnd};
-ghost use Rattle.bib_words.specs.Command.{IsCommand};
 ghost use Rattle.bib_state.specs.Calls.{Moves, IsOpen, RefusesCall, BySession, OnlyMemory, RefusesLabel, GivesFile, GivesSaved, nothing_given, undo_count, redo_count};
 ghost use Rattle.bib_state.specs.Telling.{GivesEntry, GivesKeys, RefusesEntry};
 ghost use Rattle.bib_state.specs.declared.state.State.{State as Behind};
 ghost use Rattle.bib_c.specs.Exports.{Calls, DoesOr, MovesSession, GivesTexts, HasRefused, IsNew, IsClosed, IsForgotten, HasTurned, HasScripted, HasEdited, HasRefusedEdit, HasOpened, HasRefusedOpen, HasRun, IsLengthOf, given, lent_journal};
 ghost use Rattle.bib_c.specs.Words.{said};
 
+use crate::calls;
 use crate::handle::Handle;
 use crate::report::Report;
 use crate::texts::text_of;
-use crate::words::{Options, command_of, words_of};
-use bib_run::Command;
-use bib_state::{CallFault, State};
-use std::alloc::{AllocError, Global};
-
-/// The program has no such command.
-const COMMAND_LINE: u32 = 2;
-
-/// Memory ran out.
-const OUT_OF_MEMORY: u32 = 4;
+use crate::words::Options;
+use bib_state::State;
+use std::alloc::Global;
 
 /// Makes a state behind an empty handle: no session, and no texts. The number is 0, or 10 if memory ran out; then the handle
 /// stays empty.
@@ -66,11 +59,7 @@ pub extern "C" fn bib_c_open(
     ensures opened { Calls (DoesOr (HasOpened file.now (lent_journal has_journal journal.now)) (HasRefusedOpen file.now (lent_journal has_journal journal.now)) report.new) handle.old.state handle.new.state }
 {
     let mut state = handle.take(alloc);
-    let call = match state.open(alloc, file, if_there(has_journal, journal)) {
-        Ok(()) => Ok(()),
-        Err(fault) => Err(CallFault::Session(fault)),
-    };
-    *report = Report::of_call(call);
+    *report = calls::open(alloc, &mut state, file, if_there(has_journal, journal));
     *handle = Handle::of(state);
     report.number
 }
@@ -111,21 +100,9 @@ pub extern "C" fn bib_c_edit(
     ensures edited { Calls (DoesOr (HasEdited text.now ends.now) (HasRefusedEdit text.now ends.now) report.new) handle.old.state handle.new.state }
 {
     let mut state = handle.take(alloc);
-    *report = Report::of_call(edit(alloc, &mut state, text, ends));
+    *report = calls::edit(alloc, &mut state, text, ends);
     *handle = Handle::of(state);
     report.number
-}
-
-/// Makes the edit that the words say.
-fn edit(alloc: Global, state: &mut State, text: &[u8], ends: &[usize]) -> Result<(), CallFault>
-    ensures made { OnOk result (HasEdited text.now ends.now state.old state.new) }
-    ensures refused { IfErr result (λ fault. HasRefusedEdit text.now ends.now fault state.old) }
-    ensures err { OnErr result (state.new ≡ state.old) }
-{
-    match words_of(alloc, text, ends)? {
-        Some(words) => state.edit(alloc, words.as_slice()),
-        None => Err(CallFault::Misuse),
-    }
 }
 
 /// Does what the lines of a script say, up to the first that is refused or says no edit.
@@ -141,7 +118,7 @@ pub extern "C" fn bib_c_script(
     ensures done { Calls (HasScripted script.now report.new) handle.old.state handle.new.state }
 {
     let mut state = handle.take(alloc);
-    *report = Report::scripted(state.script(alloc, script));
+    *report = calls::script(alloc, &mut state, script);
     *handle = Handle::of(state);
     report.number
 }
@@ -159,7 +136,7 @@ pub extern "C" fn bib_c_begin(
     ensures begun { Calls (DoesOr (MovesSession (Moves (Begins label.now))) (HasRefused (RefusesLabel label.now)) report.new) handle.old.state handle.new.state }
 {
     let mut state = handle.take(alloc);
-    *report = Report::of_call(state.begin(label));
+    *report = calls::begin(&mut state, label);
     *handle = Handle::of(state);
     report.number
 }
@@ -172,7 +149,7 @@ pub extern "C" fn bib_c_end(alloc: Global, handle: &mut Handle, report: &mut Rep
     ensures ended { Calls (DoesOr (MovesSession (Moves Ends)) (HasRefused (BySession RefusesEnd)) report.new) handle.old.state handle.new.state }
 {
     let mut state = handle.take(alloc);
-    *report = Report::of_call(state.end());
+    *report = calls::end(&mut state);
     *handle = Handle::of(state);
     report.number
 }
@@ -190,7 +167,7 @@ pub extern "C" fn bib_c_undo(
     ensures undone { Calls (HasTurned Undo times report.new) handle.old.state handle.new.state }
 {
     let mut state = handle.take(alloc);
-    *report = Report::turned(state.undo(times));
+    *report = calls::undo(&mut state, times);
     *handle = Handle::of(state);
     report.number
 }
@@ -208,7 +185,7 @@ pub extern "C" fn bib_c_redo(
     ensures redone { Calls (HasTurned Redo times report.new) handle.old.state handle.new.state }
 {
     let mut state = handle.take(alloc);
-    *report = Report::turned(state.redo(times));
+    *report = calls::redo(&mut state, times);
     *handle = Handle::of(state);
     report.number
 }
@@ -247,7 +224,7 @@ pub extern "C" fn bib_c_file(alloc: Global, handle: &mut Handle, report: &mut Re
     ensures given { Calls (DoesOr (GivesTexts (λ answer. IsOpen (GivesFile answer))) (HasRefused (BySession OnlyMemory)) report.new) handle.old.state handle.new.state }
 {
     let mut state = handle.take(alloc);
-    *report = Report::of_call(state.file(alloc));
+    *report = calls::file(alloc, &mut state);
     *handle = Handle::of(state);
     report.number
 }
@@ -260,7 +237,7 @@ pub extern "C" fn bib_c_save(alloc: Global, handle: &mut Handle, report: &mut Re
     ensures given { Calls (DoesOr (GivesTexts (λ answer. IsOpen (GivesSaved answer))) (HasRefused (BySession OnlyMemory)) report.new) handle.old.state handle.new.state }
 {
     let mut state = handle.take(alloc);
-    *report = Report::of_call(state.save(alloc));
+    *report = calls::save(alloc, &mut state);
     *handle = Handle::of(state);
     report.number
 }
@@ -273,7 +250,7 @@ pub extern "C" fn bib_c_keys(alloc: Global, handle: &mut Handle, report: &mut Re
     ensures given { Calls (DoesOr (GivesTexts (λ answer. IsOpen (GivesKeys answer))) (HasRefused (BySession OnlyMemory)) report.new) handle.old.state handle.new.state }
 {
     let mut state = handle.take(alloc);
-    *report = Report::of_call(state.keys(alloc));
+    *report = calls::keys(alloc, &mut state);
     *handle = Handle::of(state);
     report.number
 }
@@ -293,7 +270,7 @@ pub extern "C" fn bib_c_entry(
     ensures given { Calls (DoesOr (GivesTexts (λ answer. IsOpen (GivesEntry key.now depth answer))) (HasRefused (RefusesEntry key.now depth)) report.new) handle.old.state handle.new.state }
 {
     let mut state = handle.take(alloc);
-    *report = Report::of_call(state.entry(alloc, key, depth));
+    *report = calls::entry(alloc, &mut state, key, depth);
     *handle = Handle::of(state);
     report.number
 }
@@ -329,11 +306,7 @@ pub extern "C" fn bib_c_run(
         dropped,
     };
     let journal = if_there(has_journal, journal);
-    let number = match command_of(alloc, name, text, ends, options) {
-        Ok(Some(command)) => run(alloc, &mut state, &command, file, journal, input),
-        Ok(None) => COMMAND_LINE,
-        Err(AllocError) => OUT_OF_MEMORY,
-    };
+    let number = calls::run(alloc, &mut state, name, text, ends, options, file, journal, input);
     *handle = Handle::of(state);
     number
 }
@@ -397,24 +370,6 @@ pub extern "C" fn bib_c_text_copy(
     };
     *handle = Handle::of(state);
     is_copied
-}
-
-/// Runs a command, and says whether memory sufficed.
-fn run(
-    alloc: Global,
-    state: &mut State,
-    command: &Command,
-    file: &[u8],
-    journal: Option<&[u8]>,
-    input: &[u8],
-) -> u32
-    requires { IsCommand command.now }
-    ensures { HasRun (Some command.now) file.now (option_map (λ text. text.now) journal.entry) input.now result state.old state.new }
-{
-    match state.run(alloc, command, file, journal, input) {
-        Ok(()) => 0,
-        Err(AllocError) => OUT_OF_MEMORY,
-    }
 }
 
 /// A text, if it is there.

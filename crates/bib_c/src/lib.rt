@@ -4,11 +4,10 @@
 //! function does what its call of `bib_state` promises.
 #![tactic(auto)]
 
+mod calls;
 mod exports;
 mod handle;
 mod loose;
 mod report;
-#[cfg(test)]
-mod tests;
 mod texts;
 mod words;

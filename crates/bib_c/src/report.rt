@@ -1,7 +1,7 @@
 //! What a call says of itself, as C reads it.
 
 ghost use Rattle.std.specs.Prelude.{◌≡◌};
-ghost use Rattle.bib_c.specs.Reports.{done, placed, report_of, fault_report, call_report, turned_report, script_report};
+ghost use Rattle.bib_c.specs.Reports.{done, placed, report_of, fault_report, turned_report, script_report};
 
 use bib_state::{CallFault, Scripted, Turned};
 
@@ -58,16 +58,6 @@ impl Report {
                 done: 0,
                 line: 0,
             },
-        }
-    }
-
-    /// The call was done or refused.
-    pub fn of_call(call: Result<(), CallFault>) -> Report
-        ensures { result ≡ call_report call }
-    {
-        match call {
-            Ok(()) => Report::done(),
-            Err(fault) => Report::of(fault),
         }
     }
 

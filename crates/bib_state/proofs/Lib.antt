@@ -1,2 +1,1 @@
 mod KeyLines
-mod StepLemmas

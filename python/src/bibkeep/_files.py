@@ -7,6 +7,7 @@ import fcntl
 import os
 import stat
 from contextlib import suppress
+from io import RawIOBase
 from typing import BinaryIO, NamedTuple, Optional
 
 from ._errors import FileChanged
@@ -15,6 +16,8 @@ from ._errors import FileChanged
 PERMISSIONS = 0o777
 # The permissions of a new file while it is written.
 OWN = 0o600
+# Those of a new file in the place of none, of which the mask of the process is taken away.
+ANY = 0o666
 # A file is opened so often at most, if others go on to replace it between opening and locking.
 ATTEMPT_LIMIT = 100_000
 
@@ -50,7 +53,7 @@ def store(path: str, new: Stored, was: Optional[Stored]) -> None:
         old = None
     try:
         _expect(path, old, was)
-        mode = OWN if old is None else stat.S_IMODE(os.fstat(old.fileno()).st_mode) & PERMISSIONS
+        mode = None if old is None else stat.S_IMODE(os.fstat(old.fileno()).st_mode) & PERMISSIONS
         _put(path, new, mode)
     finally:
         if old is not None:
@@ -109,7 +112,7 @@ def _expect(path: str, old: Optional[BinaryIO], was: Optional[Stored]) -> None:
             raise FileChanged(path)
 
 
-def _put(path: str, new: Stored, mode: int) -> None:
+def _put(path: str, new: Stored, mode: Optional[int]) -> None:
     """Writes both files beside their places, and renames them: the file first."""
     assert new.file is not None and new.journal is not None
     beside, beside_journal = path + ".bibkeep-new", path + ".bibkeep.bibkeep-new"
@@ -127,21 +130,23 @@ def _put(path: str, new: Stored, mode: int) -> None:
                 os.unlink(left)
 
 
-def _written(path: str, data: bytes, mode: int) -> BinaryIO:
-    """A new file with these bytes, which is locked as long as it is open."""
+def _written(path: str, data: bytes, mode: Optional[int]) -> RawIOBase:
+    """A new file with these bytes and permissions, or those of any new file; it is locked as long as it is open."""
     # what an earlier run left is removed, even if it is a link: its target must not be written to
     with suppress(OSError):
         os.unlink(path)
-    file = os.fdopen(os.open(path, os.O_WRONLY | os.O_CREAT | os.O_EXCL | os.O_CLOEXEC, OWN), "wb", buffering=0)
+    flags = os.O_WRONLY | os.O_CREAT | os.O_EXCL | os.O_CLOEXEC
+    file = os.fdopen(os.open(path, flags, ANY if mode is None else OWN), "wb", buffering=0)
     try:
         with suppress(OSError):
             fcntl.flock(file, fcntl.LOCK_EX)
         left = memoryview(data)
         while left:
             left = left[file.write(left) or 0 :]
-        os.fchmod(file.fileno(), mode)
+        if mode is not None:
+            os.fchmod(file.fileno(), mode)
         os.fsync(file.fileno())
     except BaseException:
         file.close()
         raise
-    return file  # type: ignore[return-value]
+    return file
