@@ -15,3 +15,8 @@ before_more words word (Some more) = ap (λ (all : List Text). Some all) (joined
     joined : (words : List Text) → (words ++ word ∷ []) ++ more ≡ words ++ word ∷ more
     joined [] = refl
     joined (first ∷ words) = ap (λ (all : List Text). first ∷ all) (joined words)
+
+-- none before others
+pub before_none : (rest : Option (List Text)) → before [] rest ≡ rest
+before_none None = refl
+before_none (Some more) = refl

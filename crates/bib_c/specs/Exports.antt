@@ -1,5 +1,5 @@
 -- What an exported call does to what is behind its handle. (dialect)
-use Rattle.std.specs.Prelude.{◌≡◌, ◌≢◌, ◌⊎◌, ℕ, Bool, true, false, List, length, Option, Some, None}
+use Rattle.std.specs.Prelude.{◌≡◌, ◌==◌, if◌then◌else◌, ℕ, Bool, true, false, List, length, Option, Some, None}
 use Rattle.bib_spec.specs.Text.{Text}
 use Rattle.bib_data.specs.declared.request.Request.{Request}
 use Rattle.bib_words.specs.declared.commands.Command.{Command}
@@ -14,7 +14,7 @@ use Rattle.bib_state.specs.declared.performing.Turned.{Turned}
 use Rattle.bib_state.specs.declared.performing.Scripted.{Scripted}
 use Rattle.bib_state.specs.declared.state.State.{State}
 use Rattle.bib_state.specs.Faults.{out_of_memory}
-use Rattle.bib_state.specs.Calls.{Moves, IsOpen, RefusesCall, BySession, MakesWords, RefusesWords, Turns, DoesScript, nothing_given}
+use Rattle.bib_state.specs.Calls.{Moves, IsOpen, RefusesCall, MakesWords, RefusesWords, Turns, DoesScript, nothing_given}
 use Rattle.bib_c.specs.declared.report.Report.{Report}
 use Rattle.bib_c.specs.declared.words.Options.{Options}
 use Rattle.bib_c.specs.Reports.{done, report_of, turned_report, script_report}
@@ -32,7 +32,7 @@ pub record Calls (how : State → State → Type 0) (old new : Option State) : T
 
 -- the call did this and says so; or it was refused for this reason, with its number and place, and changed nothing
 pub data DoesOr (what : State → State → Type 0) (why : CallFault → State → Type 0) (report : Report) (before after : State) : Type 0 where
-  done : report ≡ done → what before after → DoesOr what why report before after
+  did : report ≡ done → what before after → DoesOr what why report before after
   refused : (fault : CallFault) → report ≡ report_of fault → why fault before → after ≡ before → DoesOr what why report before after
 
 -- the session moves so, and the texts stay
@@ -120,11 +120,12 @@ pub data HasRun (command : Option Command) (file : Text) (journal : Option Text)
 
 -- a text that the last call gave, by its number: its output, its message, the new file, the new journal
 abbrev pub given : ℕ → Answer → Option Text
-given 0 answer = Some answer.output
-given 1 answer = Some answer.outcome.message
-given 2 answer = answer.outcome.file
-given 3 answer = answer.outcome.journal
-given _ answer = None
+given which answer =
+    if which == 0 then Some answer.output
+    else if which == 1 then Some answer.outcome.message
+    else if which == 2 then answer.outcome.file
+    else if which == 3 then answer.outcome.journal
+    else None
 
 -- the length of a text, if there is one
 pub data IsLengthOf (text : Option Text) (has : Bool) (len : ℕ) : Type 0 where
