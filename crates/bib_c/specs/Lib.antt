@@ -1,4 +1,0 @@
-pub mod Exports
-pub mod Held
-pub mod Reports
-pub mod Words
