@@ -17,7 +17,7 @@ use Rattle.bib_answers.specs.Outcome.{answer_of}
 use Rattle.bib_state.specs.Steps.{MakesAsked, RefusesAsked}
 use Rattle.bib_state.specs.Faults.{out_of_memory}
 use Rattle.bib_state.specs.declared.fault.CallFault.{CallFault}
-use Rattle.bib_state.specs.declared.fault.CallFault.TheVariants.{Misuse, NoSuchEntry, NotUtf8, BadScript, Session}
+use Rattle.bib_state.specs.declared.fault.CallFault.TheVariants.{Misuse, BadScript, Session}
 use Rattle.bib_state.specs.declared.performing.Turned.{Turned}
 use Rattle.bib_state.specs.declared.performing.Scripted.{Scripted}
 
@@ -46,8 +46,6 @@ RefusesCall why fault (Some state) = why fault state
 abbrev pub BySession : (SessionFault → SessionState → Type 0) → CallFault → SessionState → Type 0
 BySession why (Session reason) state = why reason state
 BySession why Misuse state = ⊥
-BySession why NoSuchEntry state = ⊥
-BySession why NotUtf8 state = ⊥
 BySession why BadScript state = ⊥
 
 -- memory ran out
@@ -80,15 +78,11 @@ abbrev pub RefusesWords : List Text → CallFault → SessionState → Type 0
 RefusesWords words BadScript old = asked_by_words words ≡ None
 RefusesWords words (Session reason) old = (reason ≡ Memory) ⊎ RefusesSaid words reason old
 RefusesWords words Misuse old = ⊥
-RefusesWords words NoSuchEntry old = ⊥
-RefusesWords words NotUtf8 old = ⊥
 
 -- why no step is begun with this label: it is no label, or the session refuses it
 abbrev pub RefusesLabel : Text → CallFault → SessionState → Type 0
 RefusesLabel label Misuse old = ¬ IsLabel label
 RefusesLabel label (Session reason) old = RefusesBegin reason old
-RefusesLabel label NoSuchEntry old = ⊥
-RefusesLabel label NotUtf8 old = ⊥
 RefusesLabel label BadScript old = ⊥
 
 -- ---- several requests

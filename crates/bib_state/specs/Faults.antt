@@ -3,13 +3,11 @@ use Rattle.std.specs.Prelude.{ℕ, Option, None}
 use Rattle.bib_journal.specs.Faults.{fault_number, fault_place}
 use Rattle.bib_journal.specs.declared.fault.SessionFault.TheVariants.{Memory}
 use Rattle.bib_state.specs.declared.fault.CallFault.{CallFault}
-use Rattle.bib_state.specs.declared.fault.CallFault.TheVariants.{Misuse, NoSuchEntry, NotUtf8, BadScript, Session}
+use Rattle.bib_state.specs.declared.fault.CallFault.TheVariants.{Misuse, BadScript, Session}
 
 -- the number under which docs/FAULTS.md explains the fault; a call that is not allowed has a number of its own
 abbrev pub call_number : CallFault → ℕ
 call_number Misuse = 1000
-call_number NoSuchEntry = 11
-call_number NotUtf8 = 24
 call_number BadScript = 71
 call_number (Session fault) = fault_number fault
 

@@ -11,10 +11,6 @@ use std::alloc::AllocError;
 pub enum CallFault {
     /// No session is open, or an argument is out of its range.
     Misuse,
-    /// No entry has the key.
-    NoSuchEntry,
-    /// A text of the entry is not UTF-8.
-    NotUtf8,
     /// The words, or the line of the script, say no edit.
     BadScript,
     /// The session refuses the call, or memory ran out.
@@ -28,8 +24,6 @@ impl CallFault {
     {
         match self {
             CallFault::Misuse => 1000,
-            CallFault::NoSuchEntry => 11,
-            CallFault::NotUtf8 => 24,
             CallFault::BadScript => 71,
             CallFault::Session(fault) => fault.number(),
         }

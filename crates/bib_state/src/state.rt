@@ -1,20 +1,19 @@
 //! What a handle has behind it.
 
 ghost use Rattle.std.specs.Prelude.{◌≡◌, None, IfErr, OnOk, OnErr, IfOk, option_map};
-ghost use Rattle.bib_spec.specs.Records.{IsDepth};
 ghost use Rattle.bib_data.specs.declared.request.Request.TheVariants.{Undo, Redo};
 ghost use Rattle.bib_journal.specs.OpenSteps.{SessionState};
 ghost use Rattle.bib_journal.specs.Session.{IsOpened, RefusesOpen, Begins, Ends, RefusesEnd};
 ghost use Rattle.bib_state.specs.Calls.{Moves, IsOpen, RefusesCall, BySession, OnlyMemory, MakesWords, RefusesWords, RefusesLabel, Turns, DoesScript, nothing_given, GivesSaved, GivesFile, undo_count, redo_count};
-ghost use Rattle.bib_state.specs.Telling.{GivesEntry, GivesKeys, RefusesEntry};
+ghost use Rattle.bib_state.specs.Telling.{GivesKeys};
 
 use crate::fault::CallFault;
 use crate::making::make_words;
 use crate::performing::{Scripted, Turned, perform_script, turn};
-use crate::telling::{answer_entry, answer_file, answer_keys, answer_saved};
+use crate::telling::{answer_file, answer_keys, answer_saved};
+use bib_answers::{Answer, done};
 use bib_data::{Request, is_label};
 use bib_journal::{Session, SessionFault};
-use bib_answers::{Answer, done};
 use bib_store::Paged;
 use bib_text::Text;
 use std::alloc::Global;
@@ -192,21 +191,6 @@ impl State {
             return Err(CallFault::Misuse);
         };
         self.answer = answer_saved(alloc, session)?;
-        Ok(())
-    }
-
-    /// Gives the line of JSON of the first entry with this key, with what it inherits from up to `depth` parents.
-    pub fn entry(&mut self, alloc: Global, key: &[u8], depth: u8) -> Result<(), CallFault>
-        requires { IsDepth depth }
-        ensures given { OnOk result (IsOpen (GivesEntry key.now depth self.new.answer) self.old.session) }
-        ensures refused { IfErr result (λ fault. RefusesCall (RefusesEntry key.now depth) fault self.old.session) }
-        ensures session { self.new.session ≡ self.old.session }
-        ensures err { OnErr result (self.new ≡ self.old) }
-    {
-        let Some(session) = &self.session else {
-            return Err(CallFault::Misuse);
-        };
-        self.answer = answer_entry(alloc, session, key, depth)?;
         Ok(())
     }
 

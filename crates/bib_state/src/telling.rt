@@ -1,14 +1,10 @@
-//! What a session gives: its file, its journal, and what is told of its entries.
+//! What a session gives: its file, its journal, and the keys of its entries.
 
-ghost use Rattle.std.specs.Prelude.{◌≡◌, ◌≢◌, ◌++◌, codes, true, IfOk, IfErr, IfSome, OnOk, option_map};
-ghost use Rattle.std.specs.Option.{option_copied};
-ghost use Rattle.bib_spec.specs.Records.{entries_of, keys_of, IsDepth};
-ghost use Rattle.bib_store.specs.Readings.{OfReading, IsEntryNumber};
-ghost use Rattle.entry_json.specs.declared.fault.JsonFault.TheVariants.{Memory};
-ghost use Rattle.bib_answers.specs.Entries.{key_at};
+ghost use Rattle.std.specs.Prelude.{◌≡◌, ◌++◌, IfOk, IfErr, OnOk};
+ghost use Rattle.bib_spec.specs.Records.{entries_of, keys_of};
+ghost use Rattle.bib_store.specs.Readings.{OfReading};
 ghost use Rattle.bib_state.specs.Calls.{stored, BySession, OnlyMemory, GivesFile, GivesSaved};
-ghost use Rattle.bib_state.specs.Telling.{key_line, key_lines, IsLineOf, IsNoLineOf, GivesEntry, GivesKeys, RefusesEntry};
-
+ghost use Rattle.bib_state.specs.Telling.{key_line, key_lines, GivesKeys};
 
 use crate::fault::CallFault;
 use bib_answers::{Answer, Outcome, done};
@@ -16,7 +12,6 @@ use bib_journal::{Session, SessionFault};
 use bib_store::{Database, Paged};
 use bib_text::Text;
 use bib_words::status;
-use entry_json::{JsonFault, add_line};
 use std::alloc::{AllocError, Global};
 
 /// The present file.
@@ -56,28 +51,6 @@ fn stored(alloc: Global, file: Text, journal: Option<Text>) -> Answer
     }
 }
 
-/// The line of JSON of the first entry with this key.
-pub(crate) fn answer_entry(
-    alloc: Global,
-    session: &Session<Paged>,
-    key: &[u8],
-    depth: u8,
-) -> Result<Answer, CallFault>
-    requires { IsDepth depth }
-    ensures given { IfOk result (λ answer. GivesEntry key.now depth answer session.now) }
-    ensures refused { IfErr result (λ fault. RefusesEntry key.now depth fault session.now) }
-{
-    let db = session.database();
-    let Ok(n) = db.find(key) else {
-        return Err(CallFault::NoSuchEntry);
-    };
-    match line_of(alloc, db, n, depth) {
-        Ok(line) => Ok(done(alloc, line)),
-        Err(JsonFault::NotUtf8) => Err(CallFault::NotUtf8),
-        Err(JsonFault::Memory) => Err(CallFault::Session(SessionFault::Memory)),
-    }
-}
-
 /// The keys of all entries in order, a line feed after each.
 pub(crate) fn answer_keys(alloc: Global, session: &Session<Paged>) -> Result<Answer, CallFault>
     ensures given { IfOk result (λ answer. GivesKeys answer session.now) }
@@ -86,36 +59,6 @@ pub(crate) fn answer_keys(alloc: Global, session: &Session<Paged>) -> Result<Ans
     match keys_of(alloc, session.database()) {
         Ok(keys) => Ok(done(alloc, keys)),
         Err(AllocError) => Err(CallFault::Session(SessionFault::Memory)),
-    }
-}
-
-/// The line of JSON of entry `n`, at this depth.
-fn line_of(
-    alloc: Global,
-    db: &Database<Paged>,
-    n: usize,
-    depth: u8,
-) -> Result<Text, JsonFault>
-    requires number { IsEntryNumber db.now n }
-    requires depth { IsDepth depth }
-    ensures line { IfOk result (λ line. OfReading db.now (IsLineOf depth n line)) }
-    ensures fault { IfErr result (λ fault. fault ≢ Memory → OfReading db.now (IsNoLineOf depth n)) }
-{
-    let Ok(expanded) = db.expanded(n, depth) else {
-        return Err(JsonFault::Memory);
-    };
-    let parent = key_of(db, expanded.parent);
-    Ok(Text::from_vec(add_line(Vec::new(alloc), &expanded.rec, parent)?))
-}
-
-/// The key of an entry, if there is one.
-fn key_of(db: &Database<Paged>, n: Option<usize>) -> Option<&[u8]>
-    requires { IfSome n (IsEntryNumber db.now) }
-    ensures { OfReading db.now (λ r. option_copied result ≡ option_map (key_at (entries_of r)) n) }
-{
-    match n {
-        Some(n) => Some(db.entry(n).key()),
-        None => None,
     }
 }
 
