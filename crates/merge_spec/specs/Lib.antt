@@ -1,0 +1,4 @@
+pub mod Units
+pub mod ThreeWay
+pub mod Merged
+pub mod Examples
