@@ -1,11 +1,12 @@
 -- What the definitions say of small files.
-use Rattle.std.specs.Prelude.{ℕ, ◌≡◌, Bool, true, false, List, [], ◌∷◌, ◌++◌, codes, Option, None, Some}
+use Rattle.std.specs.Prelude.{ℕ, ◌≡◌, Bool, true, false, List, [], ◌∷◌, ◌++◌, codes, map, Option, None, Some}
 use Rattle.bib_spec.specs.Text.{Text}
 use Rattle.bib_spec.specs.Tree.{Part, Braced, Quoted, Digits, Macro, Value, Assignment, Row, Brace, Opening, Tree, DefinitionTree, EntryTree}
 use Rattle.bib_spec.specs.Reading.{Item, Reading, bytes_of}
 use Rattle.merge_spec.specs.Units.{units_of, first_space}
 use Rattle.merge_spec.specs.ThreeWay.{Outcome, Ours, Theirs, Mixed, Gone, Both}
 use Rattle.merge_spec.specs.Merged.{Place, merged_bytes, is_merge}
+use Rattle.merge_spec.specs.Names.{parent_key, may_name}
 
 -- ---- small files
 
@@ -87,16 +88,16 @@ BothAreAdded =
     let added : Text → Item = λ key. entry (codes "misc") key [] (codes "\n") in
     let space : Item → Item = λ item. record item { trail = codes "\n\n" } in
     Merges (file (a ∷ [])) (file (space a ∷ (added (codes "o") ∷ []))) (file (space a ∷ (added (codes "p") ∷ [])))
-        (place (Some 0) (Some 0) (Some 0) Ours (codes "\n\n") ∷ (place None (Some 1) None Ours (codes "\n\n") ∷ (place None None (Some 1) Theirs lf ∷ [])))
-        (codes "@misc{a,\n  t = 1,\n  u = 2\n}\n\n@misc{o}\n\n@misc{p}\n")
+    (place (Some 0) (Some 0) (Some 0) Ours (codes "\n\n") ∷ (place None (Some 1) None Ours (codes "\n\n") ∷ (place None None (Some 1) Theirs lf ∷ [])))
+    (codes "@misc{a,\n  t = 1,\n  u = 2\n}\n\n@misc{o}\n\n@misc{p}\n")
 
 -- each side adds the same entry, in its own layout: it is there once, as ours
 abbrev pub SameIsAddedOnce : Type 0
 SameIsAddedOnce =
     Merges (file (a ∷ [])) (file (a ∷ (misc (codes "n") (row (codes "t") (braced (codes "x  y")) ∷ []) ∷ [])))
-        (file (entry (codes "Misc") (codes "N") (line (codes "T") (value (Quoted (codes "x y"))) lf ∷ []) lf ∷ (a ∷ [])))
-        (place (Some 0) (Some 0) (Some 1) Ours lf ∷ (place None (Some 1) (Some 0) Ours lf ∷ []))
-        (codes "@misc{a,\n  t = 1,\n  u = 2\n}\n@misc{n, t = {x  y}}\n")
+    (file (entry (codes "Misc") (codes "N") (line (codes "T") (value (Quoted (codes "x y"))) lf ∷ []) lf ∷ (a ∷ [])))
+    (place (Some 0) (Some 0) (Some 1) Ours lf ∷ (place None (Some 1) (Some 0) Ours lf ∷ []))
+    (codes "@misc{a,\n  t = 1,\n  u = 2\n}\n@misc{n, t = {x  y}}\n")
 
 -- the places of two entries of one key, one from each side
 abbrev pub one_from_each : List Place
@@ -188,5 +189,20 @@ abbrev pub MovedAndSet : Type 0
 MovedAndSet =
     let z : Item = entry (codes "misc") (codes "z") [] lf in
     Merges (file (a ∷ (z ∷ []))) (file (z ∷ (a ∷ []))) (file (misc (codes "a") (rows one y) ∷ (z ∷ [])))
-        (place (Some 1) (Some 0) (Some 1) Ours lf ∷ (place (Some 0) (Some 1) (Some 0) Theirs lf ∷ []))
-        (codes "@misc{z}\n@misc{a,\n  t = 1,\n  u = {y}\n}\n")
+    (place (Some 1) (Some 0) (Some 1) Ours lf ∷ (place (Some 0) (Some 1) (Some 0) Theirs lf ∷ []))
+    (codes "@misc{z}\n@misc{a,\n  t = 1,\n  u = {y}\n}\n")
+
+-- ---- names
+
+-- the entry `c`, whose crossref names `a`
+abbrev pub child : Item
+child = misc (codes "c") (row (codes "crossref") (braced (codes "a")) ∷ [])
+
+-- One side removes a parent, the other adds a child of it. The entries are a merge, but the crossref of the child names the parent
+-- on its side, and nothing in the merge: a conflict.
+pub record ChildHasLostItsParent : Type 0 where
+  pub merge : Merges (file (a ∷ [])) (file []) (file (a ∷ (child ∷ []))) (place (Some 0) None (Some 0) Gone lf ∷ (place None None (Some 1) Theirs lf ∷ []))
+      (codes "@misc{c, crossref = {a}}\n")
+  pub there : map (parent_key (units_of (file (a ∷ (child ∷ []))))) (units_of (file (child ∷ []))) ≡ Some (codes "a") ∷ []
+  pub here : map (parent_key (units_of (file (child ∷ [])))) (units_of (file (child ∷ []))) ≡ None ∷ []
+  pub lost : may_name (Some (codes "a")) None ≡ false

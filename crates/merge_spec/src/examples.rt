@@ -1,6 +1,6 @@
 //! What the definitions say of small files.
 
-ghost use Rattle.merge_spec.specs.Examples.{BothAreAdded, SameIsAddedOnce, DifferentAreInConflict, BothFieldsAreSet, FieldIsAdded, FieldIsDropped, FieldIsInConflict, OtherBytesAreNoChange, RemovedIsInConflict, RemovedGoes, MovedAndSet};
+ghost use Rattle.merge_spec.specs.Examples.{BothAreAdded, SameIsAddedOnce, DifferentAreInConflict, BothFieldsAreSet, FieldIsAdded, FieldIsDropped, FieldIsInConflict, OtherBytesAreNoChange, RemovedIsInConflict, RemovedGoes, MovedAndSet, ChildHasLostItsParent};
 
 /// Entries that both sides add are there once each; two that differ and have one key are a conflict.
 pub fn added_entries_are_there_once()
@@ -27,4 +27,9 @@ pub fn removed_entries_go_or_are_in_conflict()
 /// An entry that one side moves has the fields that the other side set.
 pub fn moved_entries_keep_their_fields()
     ensures { MovedAndSet }
+{}
+
+/// A child that one side adds has lost its parent if the other side removed that.
+pub fn a_child_of_a_removed_parent_is_in_conflict()
+    ensures { ChildHasLostItsParent }
 {}
