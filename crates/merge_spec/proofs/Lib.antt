@@ -1,0 +1,2 @@
+pub mod UnitTexts
+pub mod NothingLost
