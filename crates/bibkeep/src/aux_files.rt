@@ -81,8 +81,7 @@ fn add_cited(
     known: &mut Known,
     cited: &mut Vec<Text>,
 ) -> Result<(), AuxFault> {
-    let mut paths = Vec::new(alloc);
-    paths.push(copied(alloc, name)?)?;
+    let mut paths = alone(alloc, name)?;
     'paths: for n in 0..INPUT_LIMIT + 1 {
         let Some(path) = paths.get(n) else {
             return Ok(());
@@ -102,6 +101,13 @@ fn add_cited(
         add_paths(alloc, &mut paths, folder_of(name), aux.inputs.as_slice())?;
     }
     Err(unread(alloc, name, ErrorKind::FileTooLarge))
+}
+
+/// The path with this name, alone in a list.
+fn alone(alloc: Global, name: &[u8]) -> Result<Vec<Text>, AllocError> {
+    let mut paths = Vec::new(alloc);
+    paths.push(copied(alloc, name)?)?;
+    Ok(paths)
 }
 
 /// The bytes of the file at this path, up to one past the limit; nothing if it was read before.
