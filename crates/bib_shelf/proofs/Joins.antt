@@ -6,7 +6,7 @@ use Rattle.bib_store.proofs.RowTexts.{nil_cons}
 use Rattle.bib_spec.specs.Text.{Text}
 use Rattle.shelf_spec.specs.Shelf.{seam, shelf_text}
 use Rattle.bib_shelf.specs.declared.joining.Joined.{Joined}
-use Rattle.bib_shelf.specs.Joined.{text_of, spans_from, AreJoined}
+use Rattle.bib_shelf.specs.Joined.{spans_from, AreJoined}
 
 -- the text of a shelf with another file after the others
 shelf_text-more : (file : Text) (files : List Text) (last : Text) → shelf_text file (files ++ last ∷ []) ≡ shelf_text file files ++ (seam ++ last)

@@ -1,5 +1,5 @@
 -- The file with a place of the shelf, by the spans of the files.
-use Rattle.std.proofs.Common.{◌≡◌, ℕ, zero, suc, ◌+◌, ◌-◌, ◌<◌, ◌≤◌, ◌⊎◌, inl, inr, nat_lt, min, List, [], ◌∷◌, Some, slice_get, get_or, length, if◌then◌else◌, refl, sym, ◌∙◌, ap, ap₂, subst, arith, zero-add, not-suc-le-zero}
+use Rattle.std.proofs.Common.{◌≡◌, ℕ, zero, suc, ◌+◌, ◌-◌, ◌<◌, ◌≤◌, ◌⊎◌, inl, inr, nat_lt, min, List, [], ◌∷◌, Some, slice_get, get_or, length, refl, sym, ◌∙◌, ap, ap₂, subst, arith, zero-add, not-suc-le-zero}
 use Rattle.std.proofs.lemmas.Bool.{cond-true, cond-false, lt-ltb, le-ltb}
 use Rattle.std.proofs.lemmas.Option.{none-some, same_Some, slice_get_past, slice_get-get_or}
 use Rattle.std.proofs.Math.Nat.{min-eq_right, suc-ne-zero}

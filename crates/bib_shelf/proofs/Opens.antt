@@ -1,5 +1,5 @@
 -- What is known of the files of a shelf once each was read by itself.
-use Rattle.std.proofs.Common.{◌≡◌, ◌≢◌, ℕ, zero, suc, ◌+◌, ◌-◌, ◌<◌, ◌≤◌, ◌==◌, Bool, false, ◌⊎◌, inl, inr, List, [], ◌∷◌, ◌++◌, Some, slice_get, get_or, length, take, drop, refl, sym, ◌∙◌, ap, ap₂, subst, ⊎_elim, arith, zero-add, append_assoc, length-append, not-suc-le-zero}
+use Rattle.std.proofs.Common.{◌≡◌, ◌≢◌, ℕ, zero, suc, ◌+◌, ◌-◌, ◌<◌, ◌≤◌, ◌==◌, Bool, false, inl, inr, List, [], ◌∷◌, ◌++◌, Some, slice_get, get_or, length, take, drop, refl, sym, ◌∙◌, ap, ap₂, subst, ⊎_elim, arith, zero-add, append_assoc, length-append, not-suc-le-zero}
 use Rattle.std.proofs.lemmas.Bool.{cases_lt, false≢true}
 use Rattle.std.proofs.lemmas.Option.{none-some, same_Some, slice_get_within, slice_get-get_or}
 use Rattle.std.proofs.lemmas.List.{append-nil}
@@ -7,7 +7,7 @@ use Rattle.std.proofs.lemmas.List.Elements.{All-nil}
 use Rattle.std.proofs.Math.Seq.{drop-append_seam, take-append_seam}
 use Rattle.bib_spec.specs.Bytes.{name_limit, file_limit}
 use Rattle.bib_spec.specs.Text.{Text}
-use Rattle.bib_spec.specs.Reading.{Reading, Reads, HasReading, IsItem}
+use Rattle.bib_spec.specs.Reading.{Reading, HasReading, IsItem}
 use Rattle.bib_spec.specs.Fault.{IsReadFault, too_long, no_reading as unread, no_memory as no_memory_left}
 use Rattle.bib_scan.proofs.CleanLaws.{clean_nil}
 use Rattle.bib_store.specs.Readings.{IsOpenFault, IsTextFault}
@@ -17,7 +17,7 @@ use Rattle.shelf_spec.proofs.ShelfReads.{shelf-reads}
 use Rattle.bib_shelf.specs.declared.joining.Joined.{Joined}
 use Rattle.bib_shelf.specs.Joined.{text_of, spans_from, located_in, AreJoined}
 use Rattle.bib_spec.specs.Texts.{IsOpenable}
-use Rattle.bib_shelf.specs.Faults.{HasItsPlace, HaveTheirPlaces, AreAccepted, RefusesShelf, text_too_long, no_reading as file_unread, too_long as shelf_too_long}
+use Rattle.bib_shelf.specs.Faults.{HasItsPlace, HaveTheirPlaces, AreAccepted, RefusesShelf, text_too_long, too_long as shelf_too_long}
 
 -- ---- the bytes of a file
 

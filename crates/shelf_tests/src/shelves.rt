@@ -53,7 +53,7 @@ const LONGER: &[u8] =
 #[test]
 fn a_seam_stands_between_two_files(rt: HostRuntime) -> Result<(), Fail> {
     let alloc = rt.alloc();
-    assert!(rt; seam() == b"@comment %\n");
+    assert!(rt; seam() == b"@comment %\n".as_slice());
     assert!(rt; is_text(alloc, &[b"a"], b"a")?);
     assert!(rt; is_text(alloc, &[b"a", b"", b"b"], b"a@comment %\n@comment %\nb")?);
     Ok(())

@@ -1,4 +1,4 @@
-use Rattle.std.proofs.Common.{◌≡◌, ◌∙◌, get_or, sym, subst, ap}
+use Rattle.std.proofs.Common.{◌∙◌, get_or, subst}
 use Rattle.bib_spec.specs.Text.{Text}
 use Rattle.bib_spec.specs.Reading.{HasReading}
 use Rattle.bib_spec.specs.Fault.{IsReadFault}

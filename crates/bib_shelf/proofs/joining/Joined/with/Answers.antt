@@ -1,6 +1,6 @@
 use Rattle.std.proofs.Common.{◌∙◌, ◌++◌, ◌∷◌, [], length, ap, ap₂}
 use Rattle.std.proofs.lemmas.Result.{IfOk-weaker}
-use Rattle.bib_shelf.proofs.Joins.{joined_first, joined_more, not_empty, empty}
+use Rattle.bib_shelf.proofs.Joins.{joined_more, not_empty}
 use Rattle.bib_shelf.proofs.joining.Joined.with.Goals as goal
 
 pub returns : goal.returns
