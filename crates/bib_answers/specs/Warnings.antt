@@ -2,13 +2,12 @@
 use Rattle.std.specs.Prelude.{codes}
 use Rattle.bib_spec.specs.Text.{Text}
 use Rattle.bib_answers.specs.declared.warnings.Warning.{Warning}
-use Rattle.bib_answers.specs.declared.warnings.Warning.TheVariants.{UndefinedMacro, OwnMacro, RepeatedMacro, RepeatedField, RepeatedKey, NoKey, OddKey, MissingParent, OwnParent, EarlyParent, NestedParent, NotUtf8, Conflict, LoneBrace, LostEntry}
+use Rattle.bib_answers.specs.declared.warnings.Warning.TheVariants.{UndefinedMacro, OwnMacro, RepeatedField, RepeatedKey, NoKey, OddKey, MissingParent, OwnParent, EarlyParent, NestedParent}
 
 -- the code of a kind of finding
 abbrev pub code_of : Warning → Text
 code_of UndefinedMacro = codes "undefined-macro"
 code_of OwnMacro = codes "own-macro"
-code_of RepeatedMacro = codes "repeated-macro"
 code_of RepeatedField = codes "repeated-field"
 code_of RepeatedKey = codes "repeated-key"
 code_of NoKey = codes "no-key"
@@ -17,16 +16,11 @@ code_of MissingParent = codes "missing-parent"
 code_of OwnParent = codes "own-parent"
 code_of EarlyParent = codes "early-parent"
 code_of NestedParent = codes "nested-parent"
-code_of NotUtf8 = codes "not-utf8"
-code_of Conflict = codes "conflict"
-code_of LoneBrace = codes "lone-brace"
-code_of LostEntry = codes "lost-entry"
 
 -- what a line says before the name, key or text that is found
 abbrev pub words_before : Warning → Text
 words_before UndefinedMacro = codes "macro "
 words_before OwnMacro = codes "macro "
-words_before RepeatedMacro = codes "macro "
 words_before RepeatedField = codes "field "
 words_before RepeatedKey = codes "key "
 words_before NoKey = codes "the entry"
@@ -35,16 +29,11 @@ words_before MissingParent = codes "crossref "
 words_before OwnParent = codes "crossref "
 words_before EarlyParent = codes "parent "
 words_before NestedParent = codes "parent "
-words_before NotUtf8 = codes "the value of "
-words_before Conflict = codes "conflict marker "
-words_before LoneBrace = codes "brace "
-words_before LostEntry = codes "word "
 
 -- what a line says after the name, key or text that is found
 abbrev pub words_after : Warning → Text
 words_after UndefinedMacro = codes " is not defined"
 words_after OwnMacro = codes " is used in its own definition"
-words_after RepeatedMacro = codes " is defined already"
 words_after RepeatedField = codes " is there already"
 words_after RepeatedKey = codes " is that of an earlier entry"
 words_after NoKey = codes " has no key"
@@ -53,7 +42,3 @@ words_after MissingParent = codes " names no entry"
 words_after OwnParent = codes " names its own entry"
 words_after EarlyParent = codes " stands before its child: BibTeX finds this parent only if it is cited itself or named by an earlier child"
 words_after NestedParent = codes " has a parent itself, whose fields are not inherited"
-words_after NotUtf8 = codes " is not UTF-8, so that `json` refuses it"
-words_after Conflict = codes " between items: two versions were merged by hand, or not at all"
-words_after LoneBrace = codes " alone in its line between items: an item may have ended too early"
-words_after LostEntry = codes " and a brace begin a line between items: an entry may have lost its at-sign"

@@ -8,7 +8,6 @@ ghost use Rattle.bib_answers.specs.Warnings.{code_of, words_before, words_after}
 pub enum Warning {
     UndefinedMacro,
     OwnMacro,
-    RepeatedMacro,
     RepeatedField,
     RepeatedKey,
     NoKey,
@@ -17,10 +16,6 @@ pub enum Warning {
     OwnParent,
     EarlyParent,
     NestedParent,
-    NotUtf8,
-    Conflict,
-    LoneBrace,
-    LostEntry,
 }
 
 impl Warning {
@@ -31,7 +26,6 @@ impl Warning {
         match self {
             Warning::UndefinedMacro => "undefined-macro",
             Warning::OwnMacro => "own-macro",
-            Warning::RepeatedMacro => "repeated-macro",
             Warning::RepeatedField => "repeated-field",
             Warning::RepeatedKey => "repeated-key",
             Warning::NoKey => "no-key",
@@ -40,10 +34,6 @@ impl Warning {
             Warning::OwnParent => "own-parent",
             Warning::EarlyParent => "early-parent",
             Warning::NestedParent => "nested-parent",
-            Warning::NotUtf8 => "not-utf8",
-            Warning::Conflict => "conflict",
-            Warning::LoneBrace => "lone-brace",
-            Warning::LostEntry => "lost-entry",
         }
     }
 
@@ -52,16 +42,12 @@ impl Warning {
         ensures { result.now ≡ words_before self }
     {
         match self {
-            Warning::UndefinedMacro | Warning::OwnMacro | Warning::RepeatedMacro => "macro ",
+            Warning::UndefinedMacro | Warning::OwnMacro => "macro ",
             Warning::RepeatedField => "field ",
             Warning::RepeatedKey | Warning::OddKey => "key ",
             Warning::NoKey => "the entry",
             Warning::MissingParent | Warning::OwnParent => "crossref ",
             Warning::EarlyParent | Warning::NestedParent => "parent ",
-            Warning::NotUtf8 => "the value of ",
-            Warning::Conflict => "conflict marker ",
-            Warning::LoneBrace => "brace ",
-            Warning::LostEntry => "word ",
         }
     }
 
@@ -72,7 +58,6 @@ impl Warning {
         match self {
             Warning::UndefinedMacro => " is not defined",
             Warning::OwnMacro => " is used in its own definition",
-            Warning::RepeatedMacro => " is defined already",
             Warning::RepeatedField => " is there already",
             Warning::RepeatedKey => " is that of an earlier entry",
             Warning::NoKey => " has no key",
@@ -83,10 +68,6 @@ impl Warning {
                 " stands before its child: BibTeX finds this parent only if it is cited itself or named by an earlier child"
             }
             Warning::NestedParent => " has a parent itself, whose fields are not inherited",
-            Warning::NotUtf8 => " is not UTF-8, so that `json` refuses it",
-            Warning::Conflict => " between items: two versions were merged by hand, or not at all",
-            Warning::LoneBrace => " alone in its line between items: an item may have ended too early",
-            Warning::LostEntry => " and a brace begin a line between items: an entry may have lost its at-sign",
         }
     }
 }
