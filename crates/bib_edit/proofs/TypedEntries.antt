@@ -1,7 +1,7 @@
 -- When giving an entry another type is refused, and for which reason; and the one piece that it is.
 use Rattle.bib_edit.proofs.Words.{◌≡◌, ℕ, ◌+◌, ◌<◌, ◌≤◌, ◌==◌, ◌||◌, ◌&&◌, not, nat_le, nat_lt, true, false, List, [], ◌∷◌, ◌++◌, Some, is_some, slice_get, length, list_all, ⊎_elim, true≢false, refl, sym, ◌∙◌, ap, ap₂, arith, append_assoc, All, All-nil, All-cons, All-head, All-tail, and_parts, or_from, or-true, both_ways, cases_Bool, leb-true, ltb-true, ne_eqb, false≢true}
 use Rattle.bib_edit.proofs.Words.{name_limit, file_limit, Text, is_name, does_not_begin_with, IsValue, Item, Reading, Reads, Opens, IsOpenable, Entry, EntryTree, IsItem, tree_bytes, Record, Piece, pieces_of, IsAccepted, IsFirstRefusal, holders, is_type, View, view_of, start_of, OfReading, length-append, too_long_at, item-ends}
-use Rattle.bib_edit.proofs.Words.{made_base, IsAllowedEdit, ArePiecesOf, IsRefusal, IsHeldAt, IsHolderFault, none_holds, many_hold, IsNamedItem, OfItem, item_named, olds_len, news_len, one_reading, Memory}
+use Rattle.bib_edit.proofs.Words.{made_base, IsAllowedEdit, ArePiecesOf, IsRefusal, IsHeldAt, IsHolderFault, none_holds, many_hold, IsNamedItem, OfItem, item_named, olds_len, news_len, one_reading}
 use Rattle.std.proofs.lemmas.Bool.{leb-false, not-true}
 use Rattle.std.specs.List.{prefix_len}
 use Rattle.bib_spec.specs.Bytes.{at_sign, space, tab, line_feed, carriage_return}

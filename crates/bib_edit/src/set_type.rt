@@ -65,5 +65,7 @@ fn type_place(body: &[u8]) -> usize
     ensures place { result ≡ type_place body.now }
     ensures within { result ≤ length body.now }
 {
-    body.iter().take_while(|byte| **byte == b'@' || **byte <= b' ').count()
+    body.iter()
+        .take_while(|byte| **byte == b'@' || **byte <= b' ')
+        .count()
 }

@@ -8,7 +8,7 @@ use Rattle.std.specs.List.{range_with_len}
 use Rattle.bib_spec.specs.Tree.{is_no_keyword}
 use Rattle.bib_spec.specs.Records.{once, numbers_of, with_parents, cited_by_key, cites_all}
 use Rattle.edit_spec.specs.Edits.{entry_with_type, set_type}
-use Rattle.edit_spec.specs.Laws.{record_with_type, type_for, KeepsAllButTypes, KeepsMacros, KeepsCitations, set_type_keeps}
+use Rattle.edit_spec.specs.Laws.{record_with_type, type_for, set_type_keeps}
 use Rattle.edit_spec.proofs.Unrefuted.{given_types-are}
 use Rattle.edit_spec.proofs.EditedItems.{made_reads, item_as, from_first-are, comment-of_entry, of_entry-is}
 
@@ -176,61 +176,61 @@ module _ (key kind_name : Text) where
 module _ (kinds : ℕ → Option Text) (entries new : List EntryTexts) (keys : keys_of new ≡ keys_of entries)
     (at : (n : ℕ) → slice_get new n ≡ option_map (typed (kinds n)) (slice_get entries n))
   where
-  target-kept : (n : ℕ) → target new n ≡ target entries n
-  target-kept n = ap (option_and_then (target_of new)) (at n) ∙ ⊎_elim
-      (λ none. ap (λ o. option_and_then (target_of new) (option_map (typed (kinds n)) o)) none ∙ sym (ap (option_and_then (target_of entries)) none))
-      (λ some. ap (λ o. option_and_then (target_of new) (option_map (typed (kinds n)) o)) some.1
-      ∙ ap (λ keys. option_and_then (λ t. first_named t keys) (crossref_text some.0)) keys
-      ∙ sym (ap (option_and_then (target_of entries)) some.1))
-      (option_cases (slice_get entries n))
+    target-kept : (n : ℕ) → target new n ≡ target entries n
+    target-kept n = ap (option_and_then (target_of new)) (at n) ∙ ⊎_elim
+        (λ none. ap (λ o. option_and_then (target_of new) (option_map (typed (kinds n)) o)) none ∙ sym (ap (option_and_then (target_of entries)) none))
+        (λ some. ap (λ o. option_and_then (target_of new) (option_map (typed (kinds n)) o)) some.1
+        ∙ ap (λ keys. option_and_then (λ t. first_named t keys) (crossref_text some.0)) keys
+        ∙ sym (ap (option_and_then (target_of entries)) some.1))
+        (option_cases (slice_get entries n))
 
-  parent-kept : (n : ℕ) → parent new n ≡ parent entries n
-  parent-kept n = ap (option_and_then (other_than n)) (target-kept n)
+    parent-kept : (n : ℕ) → parent new n ≡ parent entries n
+    parent-kept n = ap (option_and_then (other_than n)) (target-kept n)
 
-  fields_at-kept : (n : ℕ) → fields_at new n ≡ fields_at entries n
-  fields_at-kept n = ap (λ o. option_map_or own_fields o []) (at n) ∙ ⊎_elim
-      (λ none. ap (λ o. option_map_or own_fields (option_map (typed (kinds n)) o) []) none ∙ sym (ap (λ o. option_map_or own_fields o []) none))
-      (λ some. ap (λ o. option_map_or own_fields (option_map (typed (kinds n)) o) []) some.1 ∙ sym (ap (λ o. option_map_or own_fields o []) some.1))
-      (option_cases (slice_get entries n))
+    fields_at-kept : (n : ℕ) → fields_at new n ≡ fields_at entries n
+    fields_at-kept n = ap (λ o. option_map_or own_fields o []) (at n) ∙ ⊎_elim
+        (λ none. ap (λ o. option_map_or own_fields (option_map (typed (kinds n)) o) []) none ∙ sym (ap (λ o. option_map_or own_fields o []) none))
+        (λ some. ap (λ o. option_map_or own_fields (option_map (typed (kinds n)) o) []) some.1 ∙ sym (ap (λ o. option_map_or own_fields o []) some.1))
+        (option_cases (slice_get entries n))
 
-  inherited-kept : (own : List RecordField) (ns : List ℕ) → with_inherited new own ns ≡ with_inherited entries own ns
-  inherited-kept own [] = refl
-  inherited-kept own (n ∷ ns) = ap (λ more. with_inherited new (own ++ missing own more) ns) (fields_at-kept n) ∙ inherited-kept (own ++ missing own (fields_at entries n)) ns
+    inherited-kept : (own : List RecordField) (ns : List ℕ) → with_inherited new own ns ≡ with_inherited entries own ns
+    inherited-kept own [] = refl
+    inherited-kept own (n ∷ ns) = ap (λ more. with_inherited new (own ++ missing own more) ns) (fields_at-kept n) ∙ inherited-kept (own ++ missing own (fields_at entries n)) ns
 
-  with_type-record : (o : Option Text) (depth n : ℕ) (entry : EntryTexts) → record_of depth entries n (typed o entry) ≡ record_with_type o (record_of depth entries n entry)
-  with_type-record None depth n entry = refl
-  with_type-record (Some kind_name) depth n entry = refl
+    with_type-record : (o : Option Text) (depth n : ℕ) (entry : EntryTexts) → record_of depth entries n (typed o entry) ≡ record_with_type o (record_of depth entries n entry)
+    with_type-record None depth n entry = refl
+    with_type-record (Some kind_name) depth n entry = refl
 
-  record-kept : (depth n : ℕ) (entry : EntryTexts) → record_of depth new n (typed (kinds n) entry) ≡ record_with_type (kinds n) (record_of depth entries n entry)
-  record-kept depth n entry =
-      ap (λ fields. let it : Record = record { kind_name = folded (unwrap_or (kinds n) entry.kind); key = entry.key; fields = fields } in it)
-      (ap (λ parents. with_inherited new (own_fields entry) (ancestors_from parents depth (n ∷ []) n)) (fun_ext parent-kept)
-      ∙ inherited-kept (own_fields entry) (ancestors entries depth n))
-      ∙ with_type-record (kinds n) depth n entry
+    record-kept : (depth n : ℕ) (entry : EntryTexts) → record_of depth new n (typed (kinds n) entry) ≡ record_with_type (kinds n) (record_of depth entries n entry)
+    record-kept depth n entry =
+        ap (λ fields. let it : Record = record { kind_name = folded (unwrap_or (kinds n) entry.kind); key = entry.key; fields = fields } in it)
+        (ap (λ parents. with_inherited new (own_fields entry) (ancestors_from parents depth (n ∷ []) n)) (fun_ext parent-kept)
+        ∙ inherited-kept (own_fields entry) (ancestors entries depth n))
+        ∙ with_type-record (kinds n) depth n entry
 
-  expanded-kept : (depth n : ℕ) → expanded depth new n ≡ option_map (record_with_type (kinds n)) (expanded depth entries n)
-  expanded-kept depth n = ap (option_map (record_of depth new n)) (at n) ∙ ⊎_elim
-      (λ none. ap (λ o. option_map (record_of depth new n) (option_map (typed (kinds n)) o)) none
-      ∙ sym (ap (λ o. option_map (record_with_type (kinds n)) (option_map (record_of depth entries n) o)) none))
-      (λ some. ap (λ o. option_map (record_of depth new n) (option_map (typed (kinds n)) o)) some.1
-      ∙ ap Some (record-kept depth n some.0)
-      ∙ sym (ap (λ o. option_map (record_with_type (kinds n)) (option_map (record_of depth entries n) o)) some.1))
-      (option_cases (slice_get entries n))
+    expanded-kept : (depth n : ℕ) → expanded depth new n ≡ option_map (record_with_type (kinds n)) (expanded depth entries n)
+    expanded-kept depth n = ap (option_map (record_of depth new n)) (at n) ∙ ⊎_elim
+        (λ none. ap (λ o. option_map (record_of depth new n) (option_map (typed (kinds n)) o)) none
+        ∙ sym (ap (λ o. option_map (record_with_type (kinds n)) (option_map (record_of depth entries n) o)) none))
+        (λ some. ap (λ o. option_map (record_of depth new n) (option_map (typed (kinds n)) o)) some.1
+        ∙ ap Some (record-kept depth n some.0)
+        ∙ sym (ap (λ o. option_map (record_with_type (kinds n)) (option_map (record_of depth entries n) o)) some.1))
+        (option_cases (slice_get entries n))
 
-  -- ---- cited lists
+    -- ---- cited lists
 
-  -- the listed entries and their parents, from each entry's parent and all numbers
-  abbrev added : (ℕ → Option ℕ) → List ℕ → ℕ → List ℕ → List ℕ
-  added parents numbers min listed =
-      listed ++ filter (λ m. not (list_any (λ n. n == m) listed) && nat_le min (count_by (λ n. option_map_or (λ p. p == m) (parents n) false) listed)) numbers
+    -- the listed entries and their parents, from each entry's parent and all numbers
+    abbrev added : (ℕ → Option ℕ) → List ℕ → ℕ → List ℕ → List ℕ
+    added parents numbers min listed =
+        listed ++ filter (λ m. not (list_any (λ n. n == m) listed) && nat_le min (count_by (λ n. option_map_or (λ p. p == m) (parents n) false) listed)) numbers
 
-  listed-kept : length new ≡ length entries → (cited : List Text) (min : ℕ) → listed new cited min ≡ listed entries cited min
-  listed-kept long cited min =
-      ap₂ (λ parents numbers. if cites_all cited then numbers else added parents numbers min (cited_by_key new cited)) (fun_ext parent-kept) (ap (range_with_len 0) long)
-      ∙ ap (λ keys. if cites_all cited then numbers_of entries else with_parents entries min (once (filter_map (λ t. first_named t keys) cited))) keys
+    listed-kept : length new ≡ length entries → (cited : List Text) (min : ℕ) → listed new cited min ≡ listed entries cited min
+    listed-kept long cited min =
+        ap₂ (λ parents numbers. if cites_all cited then numbers else added parents numbers min (cited_by_key new cited)) (fun_ext parent-kept) (ap (range_with_len 0) long)
+        ∙ ap (λ keys. if cites_all cited then numbers_of entries else with_parents entries min (once (filter_map (λ t. first_named t keys) cited))) keys
 
-  unknown-kept : (cited : List Text) → unknown new cited ≡ unknown entries cited
-  unknown-kept cited = ap (λ keys. if cites_all cited then [] else map (λ p. p.0) (filter (λ p. is_none (first_named p.1 keys)) (enumerate_from 0 cited))) keys
+    unknown-kept : (cited : List Text) → unknown new cited ≡ unknown entries cited
+    unknown-kept cited = ap (λ keys. if cites_all cited then [] else map (λ p. p.0) (filter (λ p. is_none (first_named p.1 keys)) (enumerate_from 0 cited))) keys
 
 -- ---- the law
 

@@ -1,4 +1,4 @@
-use Rattle.bib_edit.proofs.Words.{◌≡◌, ◌≤◌, ◌+◌, length, sym, ◌∙◌, ap, arith, file_limit}
+use Rattle.bib_edit.proofs.Words.{length, ◌∙◌, ap, arith}
 use Rattle.bib_edit.proofs.SettingPieces.{item-within}
 use Rattle.bib_edit.proofs.TypedEntries.{type-within, typing-is}
 use Rattle.bib_edit.proofs.set_type.typing.Goals as goal
