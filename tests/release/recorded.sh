@@ -11,6 +11,7 @@ when_shell_runs 'sed "s/[0-9a-f]\{64\}/SUM/" tree/release/MUTANTS'; prints 'crat
 when_shell_runs 'tree/tools/mutants --due'; ends_with 0; writes_nothing; says_nothing
 when_shell_runs 'tree/tools/mutants'; ends_with 0; prints '0 passed, 0 failed\n'; says_nothing
 when_shell_runs 'tree/tools/mutants --all'; ends_with 0; prints 'edit\n1 passed, 0 failed\n'; says_nothing
+when_shell_runs 'tree/tools/mutants beside low'; ends_with 0; prints 'edit\n1 passed, 0 failed\n'; says_nothing
 when_shell_runs 'rm -r tree/crates/low/out; tree/.ci/prove && ls tree/crates/low/out tree/crates/low/must-fail'; ends_with 0; prints '1 of 1 mutants were refused over these very sources before (release/MUTANTS); the others are tried\n1 passed, 0 failed\ntree/crates/low/must-fail:\na.edit\n\ntree/crates/low/out:\nmade\n'; says_nothing
 
 # What a mutant shows depends on its text, on its crate and those below it, and on the toolchain.
