@@ -6,8 +6,8 @@ ghost use Rattle.bib_command.specs.Lines.{Reads};
 ghost use Rattle.bib_command.specs.CommandLine.{adds, over_file, cat_line, lint_line, show_line, cited_line, entry_line, cite_line, edit_or_print_line, keys_line, names_line, newkeys_line, edit_line, steps_line, ris_line, import_line, explain_line, bibkeep_top, bibkeep_shows, bibkeep_makes, bibkeep_edits, bibkeep};
 
 use crate::arguments::{
-    any_file, aux_files, count, edit_words, hints, ignore, keys, levels, needed, new_journal, no_journal, print,
-    switch,
+    any_file, aux_files, count, edit_words, hints, ignore, keys, levels, needed, new_journal,
+    no_journal, print, switch,
 };
 use clap::Command;
 use std::alloc::{AllocError, Global};
