@@ -3,7 +3,6 @@ use Rattle.std.specs.Prelude.{◌≡◌, List}
 use Rattle.bib_spec.specs.Text.{Text}
 use Rattle.bib_data.specs.declared.edit.Edit.{Edit}
 use Rattle.bib_data.specs.declared.request.Request.{Request}
-use Rattle.bib_data.specs.declared.request.Request.TheVariants as request
 use Rattle.bib_journal.specs.OpenSteps.{SessionState, idle}
 use Rattle.bib_journal.specs.Session.{MakesEdit, RefusesEdit}
 use Rattle.bib_journal.specs.declared.fault.SessionFault.{SessionFault}
