@@ -1,0 +1,2 @@
+mod AskedSteps
+mod KeyLines
