@@ -41,7 +41,7 @@ FILES = {
     "$(id>pwned)/deep.bib": ONE,
     "edits.tsv": "drop\tkey1\tnote\n",
     "paper.aux": "\\citation{key1}\n",
-    "`id>pwned`.aux": "\\citation{key1}\n",
+    "q`id>pwned`.aux": "\\citation{key1}\n",
 }
 
 
@@ -111,7 +111,7 @@ CASES = [
     ("bibkeep check fo\tin\t", ["bibkeep", "check", "fold er/in.bib"]),
     # aux files, and what comes after them
     ("bibkeep cite one.bib --aux pa\t", ["bibkeep", "cite", "one.bib", "--aux", "paper.aux"]),
-    ("bibkeep extract one.bib --aux \\`\t", ["bibkeep", "extract", "one.bib", "--aux", "`id>pwned`.aux"]),
+    ("bibkeep extract one.bib --aux q\t", ["bibkeep", "extract", "one.bib", "--aux", "q`id>pwned`.aux"]),
     ("bibkeep labels --aux paper.aux on\t", ["bibkeep", "labels", "--aux", "paper.aux", "one.bib"]),
     ("bibkeep json --aux paper.aux keys.bib x\t", ["bibkeep", "json", "--aux", "paper.aux", "keys.bib", "x$(id>pwned)"]),
     # keys of files whatever their names are
