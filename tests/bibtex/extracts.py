@@ -28,7 +28,7 @@ def known(bibkeep, keys):
 
 
 def compare_extract(report, bibtex, bibkeep, file, keys, random):
-    if not keys or not all(key == b"*" or is_citable(key) for key in keys):
+    if not keys or not all(key == b"*" or is_named_in_aux(key) for key in keys):
         return
     where = f"{file.name}, {b' '.join(keys).decode()}"
     minimum = random.choice((1, 2, 3))
@@ -39,6 +39,11 @@ def compare_extract(report, bibtex, bibkeep, file, keys, random):
     report.expect("`extract` with an aux file", where, part, again)
     whole = bibliography(bibtex, file.text, minimum)
     report.expect("the bibliography of an extract", f"{where}, at least {minimum}", bibliography(bibtex, part, minimum), whole)
+
+
+def is_named_in_aux(key):
+    """Whether a line of an aux file can cite this key: one with a brace is passed over."""
+    return is_citable(key) and b"{" not in key and b"}" not in key
 
 
 def aux_text(keys, style):
