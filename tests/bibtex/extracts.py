@@ -1,4 +1,7 @@
-"""Whether BibTeX makes of the extract of a file what it makes of the whole file, for the keys of an aux file."""
+"""Whether BibTeX makes of the extract of a file what it makes of the whole file, for the keys of an aux file.
+
+Files that were made are left out: their empty crossrefs, which for BibTeX name an entry without a key, have no parent here.
+"""
 
 import os
 import subprocess
