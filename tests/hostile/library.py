@@ -39,9 +39,9 @@ ROWS = {
     "flat_stores": 13,
     "paged_stores": 13,
     "names": 14,
-    "flat_edits": 20,
-    "paged_edits": 20,
-    "plans": 24,
+    "flat_edits": 21,
+    "paged_edits": 21,
+    "plans": 25,
     "journals": 8,
     "references": 14,
 }
