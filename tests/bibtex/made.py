@@ -30,15 +30,16 @@ BETWEEN += [b"a @comment b"]
 CROSSREF = b"crossref"
 
 
-def made_file(seed, count):
-    """A file of so many entries."""
-    return Maker(seed).file(count)
+def made_file(seed, count, has_odd_keys=True):
+    """A file of so many entries; without odd keys each entry has a key, and no other has the same."""
+    return Maker(seed, has_odd_keys).file(count)
 
 
 class Maker:
-    def __init__(self, seed):
+    def __init__(self, seed, has_odd_keys):
         self.random = Random(seed)
         self.seed = seed
+        self.has_odd_keys = has_odd_keys
 
     def file(self, count):
         self.keys = self.made_keys(count)
@@ -60,9 +61,9 @@ class Maker:
         keys = []
         for n in range(count):
             key = self.random.choice(KEYS) + (b"%d" % n)
-            if keys and self.chance(0.06):
+            if self.has_odd_keys and keys and self.chance(0.06):
                 key = self.in_any_case(self.random.choice(keys))
-            if self.chance(0.015):
+            if self.has_odd_keys and self.chance(0.015):
                 key = b""
             keys.append(key)
         return keys
