@@ -1,8 +1,8 @@
 # perl recite.pl KEYS PAPER: prints a LaTeX document with new keys in its citations.
-# KEYS has a line for each key: the old key, a tab, the new key.
+# KEYS has a line for each key: the old key, a tab, the new key. If an old key comes twice, the first line counts.
 my ($keys, $paper) = @ARGV;
 open my $list, '<', $keys or die "$keys: $!\n";
-my %new = map { chomp; my ($old, $new) = split /\t/; (lc $old, $new) } <$list>;
+my %new = map { chomp; my ($old, $new) = split /\t/; (lc $old, $new) } reverse grep /\t./, <$list>;
 open my $in, '<', $paper or die "$paper: $!\n";
 my $text = do { local $/; <$in> };
 
@@ -14,10 +14,14 @@ sub renamed {
 
 sub recited {
     my $command = shift;
-    $command =~ s/(\[[^\]]*\])|\{([^}]*)\}/defined $1 ? $1 : '{' . renamed($2) . '}'/ge;
+    $command =~ s/(\[[^\]]*\])|\{([^}]*)\}/defined $1 ? mended($1) : '{' . renamed($2) . '}'/ge;
     return $command;
 }
 
 my $argument = qr/(?:\s*\[[^\]]*\])*\s*\{[^}]*\}/;
-$text =~ s/(\\[A-Za-z]*[Cc]ite(?:s\*?$argument+|[A-Za-z]*\*?$argument))/recited($1)/ge;
-print $text;
+sub mended {
+    my $part = shift;
+    $part =~ s/(\\[A-Za-z]*[Cc]ite)(s\*?(?:\([^)]*\))*$argument+|[A-Za-z]*\*?$argument)/$1 . recited($2)/ge;
+    return $part;
+}
+print mended($text);
