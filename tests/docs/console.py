@@ -18,16 +18,16 @@ def compare(report, root, pages, program):
             for block in page.blocks:
                 if block.language == "console":
                     commands = list(commands_of(block))
-                    if has_tools(page, block, [command for command, _, _ in commands]):
+                    if has_tools(page.where(block.number), [command for command, _, _ in commands]):
                         for command, number, shown in commands:
                             compare_command(report, page, program, folder, command, number, shown)
 
 
-def has_tools(page, block, commands):
+def has_tools(where, commands):
     """Whether all that the commands need is here; else it says what is left out."""
     lacking = sorted({tool for command in commands for tool in TOOLS.findall(command) if not shutil.which(tool)})
     if lacking:
-        print(f"{page.where(block.number)}: left out, since there is no {' and no '.join(lacking)}")
+        print(f"{where}: left out, since there is no {' and no '.join(lacking)}")
     return not lacking
 
 

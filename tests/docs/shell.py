@@ -36,7 +36,7 @@ def is_to_be_run(page, block):
     if any(LEFT_OUT.search(line) for line in lines):
         print(f"{page.where(block.number)}: left out, since it needs the toolchain, or a word stands for another")
         return False
-    return has_tools(page, block, lines + ["make"] * (block.language == "make"))
+    return has_tools(page.where(block.number), lines + ["make"] * (block.language == "make"))
 
 
 def lay_repository(root, repository):
