@@ -112,7 +112,7 @@ complete -c bibkeep -n '__fish_seen_subcommand_from show labels json names newke
 complete -c bibkeep -n '__fish_seen_subcommand_from ris' -l dropped -d 'Lists the fields that RIS leaves out, as key, tab and field, instead of the RIS text'
 complete -c bibkeep -n '__fish_seen_subcommand_from cite labels json ris extract' -l aux -r -k -a '(__fish_complete_suffix .aux)' -d 'An aux file of LaTeX; the keys that it cites come after the KEYs'
 complete -c bibkeep -n '__fish_seen_subcommand_from cite' -l strict -d 'Ends with status 1 if a key is unknown'
-complete -c bibkeep -n '__fish_seen_subcommand_from lint' -l ignore -x -a 'undefined-macro own-macro repeated-field repeated-key missing-parent own-parent early-parent nested-parent no-key odd-key' -d 'Leaves out findings with this code; may be given several times'
+complete -c bibkeep -n '__fish_seen_subcommand_from lint' -l ignore -x -a 'undefined-macro own-macro repeated-field repeated-key missing-parent own-parent early-parent nested-parent no-key odd-key conflict-marker lost-entry lone-brace repeated-macro refused-name empty-crossref not-utf8' -d 'Leaves out findings with this code; may be given several times'
 complete -c bibkeep -n '__fish_seen_subcommand_from cite' -l min-crossrefs -x -d 'How many cited entries must refer to a parent so that it is listed too, from 1 to 65535'
 complete -c bibkeep -n '__bibkeep_has 1 cat check lint show entry cite labels json names newkeys edit undo redo log forget ris extract import' -k -a '(__fish_complete_suffix .bib)'
 complete -c bibkeep -n '__bibkeep_has 2 show names' -a '(__bibkeep_keys)'

@@ -1,4 +1,4 @@
-"""What the sources have: crates, public functions with their clauses, types, definitions, and all words."""
+"""What the sources have: crates, public functions with their clauses, types, definitions, and all words, also those of C and Python."""
 
 import collections
 import glob
@@ -7,7 +7,7 @@ import re
 
 Function = collections.namedtuple("Function", "crate owner name clauses is_public")
 
-FUNCTION = re.compile(r"^\s*(pub(?:\([^)]*\))?\s+)?(?:const\s+)?fn\s+(\w+)")
+FUNCTION = re.compile(r"^\s*(pub(?:\([^)]*\))?\s+)?(?:const\s+)?(?:extern\s+\S+\s+)?fn\s+(\w+)")
 TYPE = re.compile(r"^pub\s+(?:struct|enum|trait)\s+(\w+)", re.M)
 DEFINITION = re.compile(r"^(?:(?:abbrev|record|data)\s+)?(?:pub\s+)?(?:(?:abbrev|record|data)\s+)?([\w-]+)\s*(?:\(.*)?:", re.M)
 CLAUSE = re.compile(r"\bensures\s+(\w+)\*?\s*\{")
@@ -27,6 +27,9 @@ class Sources:
                 for path in glob.glob(os.path.join(root, "crates", crate, kind, "**", "*"), recursive=True):
                     if os.path.isfile(path):
                         self.add(crate, kind, path)
+        for path in glob.glob(os.path.join(root, "c", "*.[ch]")) + glob.glob(os.path.join(root, "python", "*", "*.py")):
+            with open(path, encoding="utf-8") as file:
+                self.words.update(WORD.findall(file.read()))
 
     def add(self, crate, kind, path):
         with open(path, encoding="utf-8") as file:

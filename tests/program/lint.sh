@@ -17,13 +17,17 @@ finds '@misc{\303\251\303\251, t = u}' 'linted.bib:1:17: warning: macro u is not
 
 # Of a value with several parts each use has its own place.
 finds '@misc{a, t = u # {x}\n # v # jan # w}' 'linted.bib:1:14: warning: macro u is not defined [undefined-macro]\nlinted.bib:2:4: warning: macro v is not defined [undefined-macro]\nlinted.bib:2:14: warning: macro w is not defined [undefined-macro]\n'
-finds '@string{m = m}@string{m = M # n}@preamble{m # o}' 'linted.bib:1:13: warning: macro m is used in its own definition [own-macro]\nlinted.bib:1:27: warning: macro M is used in its own definition [own-macro]\nlinted.bib:1:31: warning: macro n is not defined [undefined-macro]\nlinted.bib:1:47: warning: macro o is not defined [undefined-macro]\n'
+finds '@string{m = m}@string{m = M # n}@preamble{m # o}' 'linted.bib:1:13: warning: macro m is used in its own definition [own-macro]\nlinted.bib:1:23: warning: macro m is defined already: the uses after this have the new text [repeated-macro]\nlinted.bib:1:27: warning: macro M is used in its own definition [own-macro]\nlinted.bib:1:31: warning: macro n is not defined [undefined-macro]\nlinted.bib:1:47: warning: macro o is not defined [undefined-macro]\n'
 
 # Crossrefs are found at the field that counts.
 when lint crossrefs.bib; ends_with 1; prints 'crossrefs.bib:1:19: warning: crossref a names its own entry [own-parent]\ncrossrefs.bib:1:49: warning: parent b stands before its child: BibTeX finds this parent only if it is cited itself or named by an earlier child [early-parent]\ncrossrefs.bib:1:70: warning: crossref q names no entry [missing-parent]\n'; says_nothing
 finds_nothing '@misc{a, crossref = {}}@misc{b, crossref = { \n}}'
 finds_nothing '@string{crossref = {q}}@misc{a, t = crossref}'
 finds '@misc{a, crossref = {q}, CROSSREF = {a}}' 'linted.bib:1:21: warning: crossref q names no entry [missing-parent]\nlinted.bib:1:26: warning: field CROSSREF is there already [repeated-field]\n'
+
+# An empty crossref is none, but BibTeX takes an entry without a key for its parent.
+finds '@misc{a, crossref = {}}@misc{b, crossref = { }}@misc{, t = 1}' 'linted.bib:1:21: warning: the crossref of a is empty and an entry has no key [empty-crossref]\nlinted.bib:1:44: warning: the crossref of b is empty and an entry has no key [empty-crossref]\nlinted.bib:1:54: warning: the entry has no key [no-key]\n'
+finds '@misc{, t = 1}@misc{a, crossref = {q}}' 'linted.bib:1:7: warning: the entry has no key [no-key]\nlinted.bib:1:35: warning: crossref q names no entry [missing-parent]\n'
 
 # A parent that has a parent itself; in a ring of two nothing is lost.
 finds '@misc{a, crossref = {b}}@misc{b, crossref = {c}}@misc{c}' 'linted.bib:1:21: warning: parent b has a parent itself, whose fields are not inherited [nested-parent]\n'
@@ -32,6 +36,33 @@ finds '@misc{a, crossref = {b}}@misc{b, crossref = {a}}' 'linted.bib:1:45: warni
 # Keys that are read, and that no edit could write.
 finds '@misc{}' 'linted.bib:1:7: warning: the entry has no key [no-key]\n'
 finds '@misc(a}b, t = 1)@misc{c{d}' 'linted.bib:1:7: warning: key a}b is none that an edit could write [odd-key]\nlinted.bib:1:24: warning: key c{d is none that an edit could write [odd-key]\n'
+
+# A macro that an earlier item defines, in letters of any case; the first definition of a month is none.
+finds '@string{m = {x}}\n@STRING(M = {y})\n@misc{a, t = m}\n@string{m = m}' 'linted.bib:2:9: warning: macro M is defined already: the uses after this have the new text [repeated-macro]\nlinted.bib:4:9: warning: macro m is defined already: the uses after this have the new text [repeated-macro]\nlinted.bib:4:13: warning: macro m is used in its own definition [own-macro]\n'
+finds '@string{jan = {J}}@string{feb = {F}}@string{Jan = {j}}' 'linted.bib:1:45: warning: macro Jan is defined already: the uses after this have the new text [repeated-macro]\n'
+finds_nothing '@string{m = {x}}@misc{m, m = m}@preamble{m}@string{n = m}'
+
+# Names that `names` refuses, in the first author and the first editor of an entry.
+finds '@misc{a, author = {A, B, C, D and E, F}}' 'linted.bib:1:19: warning: name A, B, C, D has too many commas: 21 TooManyCommas [refused-name]\n'
+finds '@string{m = {A,\n B,C,D}}@misc{a, Editor = m # { and } # m}' 'linted.bib:2:27: warning: name A, B,C,D has too many commas: 21 TooManyCommas [refused-name]\nlinted.bib:2:27: warning: name A, B,C,D has too many commas: 21 TooManyCommas [refused-name]\n'
+finds '@misc{a, author = {A}, AUTHOR = {A, B, C, D}}' 'linted.bib:1:24: warning: field AUTHOR is there already [repeated-field]\n'
+finds_nothing '@misc{a, author = {A, B, C and D, E, F and {A, B, C, D} and G, H, I,,}, title = {1, 2, 3, 4, 5}}@string{author = {A, B, C, D}}'
+
+# What json refuses: a type, a key, a field's name or text that is not UTF-8. Texts are read with their macros.
+finds '@string{m = {\351}}@misc{a, t = m, u = {\303\251}, v = {\303} # {\251}}@misc{b, t\351 = 1, crossref = {\351}}' 'linted.bib:1:30: warning: field t is not UTF-8: 24 NotUtf8 [not-utf8]\nlinted.bib:1:71: warning: field t\351 is not UTF-8: 24 NotUtf8 [not-utf8]\nlinted.bib:1:85: warning: crossref \351 names no entry [missing-parent]\n'
+finds '@m\351sc{a\351, t = 1}' 'linted.bib:1:7: warning: type m\351sc is not UTF-8: 24 NotUtf8 [not-utf8]\nlinted.bib:1:7: warning: key a\351 is not UTF-8: 24 NotUtf8 [not-utf8]\n'
+
+# Markers that a merge left between items: seven times one of four signs, and then white space or nothing.
+finds '<<<<<<< HEAD\n@misc{b,\n  year = 2001\n}\n=======\n\n>>>>>>> carl\n' 'linted.bib:1:1: warning: conflict marker <<<<<<< was left by a merge [conflict-marker]\nlinted.bib:5:1: warning: conflict marker ======= was left by a merge [conflict-marker]\nlinted.bib:7:1: warning: conflict marker >>>>>>> was left by a merge [conflict-marker]\n'
+finds '@misc{a}\r\n||||||| base\r\n=======\r\n@misc{b}\n<<<<<<<' 'linted.bib:2:1: warning: conflict marker ||||||| was left by a merge [conflict-marker]\nlinted.bib:3:1: warning: conflict marker ======= was left by a merge [conflict-marker]\nlinted.bib:5:1: warning: conflict marker <<<<<<< was left by a merge [conflict-marker]\n'
+finds_nothing '========\n<<<<<<\n <<<<<<<\n>>>>>>>a\n@misc{b, t = {\n<<<<<<< a\n}}'
+
+# An entry that lost its at-sign, and a brace that closes nothing. The rest of an item's last line is a line too.
+finds 'article{lost, title = {The lost one}}\n@misc{a, title={A}}\n}\n@artcle{b, title = {x}}\n' 'linted.bib:1:1: warning: text article{ has no at-sign before it and begins no entry [lost-entry]\nlinted.bib:3:1: warning: brace } closes no item [lone-brace]\n'
+finds '@misc{a, t = {x}}}\n\n \t}\r\n@misc{b}BOOK{c}' 'linted.bib:1:18: warning: brace } closes no item [lone-brace]\nlinted.bib:3:1: warning: brace } closes no item [lone-brace]\nlinted.bib:4:9: warning: text BOOK{ has no at-sign before it and begins no entry [lost-entry]\n'
+finds '@misc{a, t = u}}@misc{A}' 'linted.bib:1:14: warning: macro u is not defined [undefined-macro]\nlinted.bib:1:16: warning: brace } closes no item [lone-brace]\nlinted.bib:1:23: warning: key A is that of an earlier entry [repeated-key]\n'
+finds_nothing 'article\n article{a}\narticle {b}\n{\n12{c}\n} }\n\\newcommand{d}\na-b{\n@misc{e}'
+finds '@comment{\n article{x,\n}\n@misc{a}\n@comment{\nbook{y}\n}\n<<<<<<< a\n' 'linted.bib:8:1: warning: conflict marker <<<<<<< was left by a merge [conflict-marker]\n'
 
 # Findings whose code is ignored are left out, and do not count; a code that no finding has changes nothing.
 given linted.bib '@misc{a, t = u, t = v}@misc{A}'

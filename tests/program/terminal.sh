@@ -19,7 +19,7 @@ when_at output edit screen.bib --print set "$(printf 'a\033b')" u 2; ends_with 0
 when_at output cite screen.bib '*'; ends_with 0; prints 'a^[b\n'
 when cat screen.bib; ends_with 0; writes screen.bib
 when cite screen.bib '*'; ends_with 0; prints 'a\033b\n'
-when lint screen.bib; ends_with 1; prints 'screen.bib:1:7: warning: key a^[b is none that an edit could write [odd-key]\n'
+when lint screen.bib; ends_with 1; prints 'screen.bib:1:7: warning: key a^[b is none that an edit could write [odd-key]\nscreen.bib:1:16: warning: field t is not UTF-8: 24 NotUtf8 [not-utf8]\n'
 given latin.bib '@misc{a\033b, t = {\351}}\n'
 when json latin.bib '*'; ends_with 1; says 'bibkeep: 24 NotUtf8 in a^[b'
 

@@ -1,6 +1,6 @@
 -- The lines of faults of reading, and which faults those are.
-use Rattle.bib_answers.proofs.Words.{◌≡◌, ◌≢◌, ◌<◌, ◌≤◌, ◌+◌, ℕ, true, false, List, [], ◌∷◌, ◌==◌, sym, ap, ◌∙◌, append-nil, flat_map, flat_map_more, length, take, take_more, get_or, map, Text, IsReadFault, Written, answer_of}
-use Rattle.std.proofs.Common.{inl, inr, refl, nat_lt, arith, ◌++◌}
+use Rattle.bib_answers.proofs.Words.{◌≡◌, ◌≢◌, ◌<◌, ◌≤◌, ◌+◌, ℕ, true, false, List, [], ◌∷◌, ◌==◌, sym, ap, ap₂, ◌∙◌, append-nil, flat_map, flat_map_more, length, take, take_more, get_or, map, Text, IsReadFault, Written, answer_of}
+use Rattle.std.proofs.Common.{inl, inr, refl, nat_lt, arith, zero-add, ◌++◌}
 use Rattle.std.proofs.lemmas.Bool.{ltb-true, ltb-false, false≢true}
 use Rattle.bib_spec.specs.Bytes.{file_limit}
 use Rattle.bib_spec.specs.Reading.{HasReading}
@@ -11,7 +11,9 @@ use Rattle.bib_faults.specs.GoingOn.{Fault}
 use Rattle.bib_faults.specs.Told.{told}
 use Rattle.bib_answers.specs.FindingLines.{with_faults}
 use Rattle.bib_answers.specs.Positions.{position_of}
-use Rattle.bib_answers.specs.Lint.{error_line, fault_line, fault_lines}
+use Rattle.bib_answers.specs.Lint.{error_line, fault_line, fault_lines, name_at, place_at, IsFaultAnswer, IsLintAnswer, reading, other, faulty, refused}
+use Rattle.bib_answers.specs.declared.answers.Answer.{Answer}
+use Rattle.bib_shelf.specs.Joined.{AreJoined}
 
 -- the line of a fault as it is reported
 abbrev pub told_line : Text → Text → ReadFault → Text
@@ -56,22 +58,44 @@ short_file file kind place is_not low (inl fault) = of_read kind place fault low
     of_read k p (no_memory_left short) low = short
 short_file file kind place is_not low (inr fault) = fault.short
 
+-- what is answered to a file that is not opened for a fault
+pub fault_answer : (ignored : List Text) (name file : Text) (fault : ReadFault) (answer : Answer) → (fault.kind == 10) ≡ false → IsOpenFault file fault.kind fault.place
+    → IsFaultAnswer name file fault.kind fault.place answer → IsLintAnswer ignored name file answer
+fault_answer ignored name file fault answer told why (reading low faults are is) =
+    faulty (short_file file fault.kind fault.place told low why) (no_reading file fault.kind fault.place told low why) faults are is
+fault_answer ignored name file fault answer told why (other past is) = refused fault.kind fault.place (no_memory fault.kind told) past why is
+
+-- one file in a text
+pub alone_joined : (file : Text) → AreJoined (file ∷ []) (record { text = file; spans = (0, length file) ∷ [] })
+alone_joined file = record { text = refl; spans = ap (λ n. let span : ℕ × ℕ = (0, n) in span ∷ []) (sym (zero-add (length file))) }
+
 -- ---- lines that are added one after another
 
 -- no faults add nothing
 pub faults_none : (w : Written) → w ≡ with_faults w []
 faults_none w = ap (λ (t : Text). record w { text = t }) (sym (append-nil w.text))
 
+-- the line of a fault in one of these files
+abbrev line_in : Written → ReadFault → Text
+line_in w fault = error_line (name_at w.names w.files fault.place) (place_at w.files fault.place) fault.kind
+
 -- the next of some faults
 pub faults_more : (w : Written) (faults : List ReadFault) (n : ℕ) (d : ReadFault) → n < length faults
     → with_faults (with_faults w (take n faults)) (get_or faults n d ∷ []) ≡ with_faults w (take (n + 1) faults)
 faults_more w faults n d within =
     ap (λ (t : Text). record w { text = t })
-    (ap (λ (t : Text). (w.text ++ flat_map (told_line w.name w.file) (take n faults)) ++ t) (append-nil (told_line w.name w.file (get_or faults n d)))
-    ∙ flat_map_more (told_line w.name w.file) w.text (take n faults) (get_or faults n d)
-    ∙ ap (λ (l : List ReadFault). w.text ++ flat_map (told_line w.name w.file) l) (sym (take_more faults n d within)))
+    (ap (λ (t : Text). (w.text ++ flat_map (line_in w) (take n faults)) ++ t) (append-nil (line_in w (get_or faults n d)))
+    ∙ flat_map_more (line_in w) w.text (take n faults) (get_or faults n d)
+    ∙ ap (λ (l : List ReadFault). w.text ++ flat_map (line_in w) l) (sym (take_more faults n d within)))
 
 -- one line more
 pub faults_step : (w v u : Written) (faults : List ReadFault) (n : ℕ) (d : ReadFault) → n < length faults → v ≡ with_faults w (take n faults)
     → u ≡ with_faults v (get_or faults n d ∷ []) → u ≡ with_faults w (take (n + 1) faults)
 faults_step w v u faults n d within before more = more ∙ ap (λ (x : Written). with_faults x (get_or faults n d ∷ [])) before ∙ faults_more w faults n d within
+
+-- the lines of faults of one file
+pub faults_alone : (w : Written) (name file : Text) (faults : List ReadFault) → w.names ≡ name ∷ [] → w.files ≡ file ∷ [] → w.text ≡ []
+    → (with_faults w faults).text ≡ flat_map (told_line name file) faults
+faults_alone w name file faults named filed empty =
+    ap₂ (λ (names files : List Text). w.text ++ flat_map (λ (fault : ReadFault). error_line (name_at names files fault.place) (place_at files fault.place) fault.kind) faults) named filed
+    ∙ ap (λ (t : Text). t ++ flat_map (told_line name file) faults) empty

@@ -1,14 +1,17 @@
 -- How findings are added: of a value use by use, of an item field by field, and of a file item by item.
-use Rattle.bib_answers.proofs.Words.{◌≡◌, ◌∙◌, ℕ, ◌+◌, ◌<◌, List, [], ◌∷◌, ◌++◌, length, map, take, Option, Some, slice_get, get_or, zip, refl, sym, ap, ap₂, append-nil, append_assoc, flat_map, slice_get_within, get_or_from_slice_get, length-map, get_or-zip, length-zip, take-length, Text, Part}
+use Rattle.bib_answers.proofs.Words.{◌≡◌, ◌∙◌, ℕ, ◌+◌, ◌<◌, ◌≤◌, List, [], ◌∷◌, ◌++◌, length, map, take, Option, Some, slice_get, get_or, zip, refl, sym, ap, ap₂, append-nil, append_assoc, flat_map, slice_get_within, get_or_from_slice_get, length-map, get_or-zip, length-zip, take-length, take_all, Bor, Text, Part}
 use Rattle.bib_answers.proofs.Words.{Macros, Field, OfValue, Assigned, AreFieldsOf, AreSound, Finding, value_findings, field_findings, Written, with_findings}
 use Rattle.std.proofs.Common.{arith}
 use Rattle.std.proofs.lemmas.Grind.{flat_map-append}
+use Rattle.std.proofs.lemmas.List.Folds.{flat_map-map}
 use Rattle.bib_spec.specs.Tree.{Value, Link}
 use Rattle.bib_spec.specs.Texts.{parts_of}
 use Rattle.bib_scan.specs.ValueParts.{IsPartsOf, spans_of, span_start}
 use Rattle.bib_scan.specs.declared.parts.PartSpan.{PartSpan}
 use Rattle.bib_scan.proofs.TakenApart.{one_value, length-spans_of}
-use Rattle.bib_answers.specs.Lint.{finding_line, placed_parts, name_findings}
+use Rattle.bib_strays.specs.Strays.{Stray}
+use Rattle.bib_answers.specs.declared.warnings.Warning.TheVariants.{ManyCommas}
+use Rattle.bib_answers.specs.Lint.{finding_line, found, placed_parts, name_findings, stray_finding}
 use Rattle.bib_answers.proofs.LineLists.{lines_more}
 
 -- no findings add nothing
@@ -21,7 +24,45 @@ findings_append w xs ys = ap (λ (t : Text). record w { text = t })
     (append_assoc w.text (flat_map line xs) (flat_map line ys) ∙ ap (λ (t : Text). w.text ++ t) (sym (flat_map-append line xs ys)))
   where
     line : Finding → Text
-    line = finding_line w.ignored w.name w.file w.start
+    line = finding_line w.ignored w.names w.files w.start
+
+-- ---- texts between items
+
+-- the finding for one more line
+pub gap_more : (at : ℕ) (whole out out1 : Written) (line : Stray) (lines rest : List Stray) → lines ≡ line ∷ rest → out1 ≡ with_findings out (stray_finding at line ∷ [])
+    → with_findings out (map (stray_finding at) lines) ≡ whole → with_findings out1 (map (stray_finding at) rest) ≡ whole
+gap_more at whole out out1 line lines rest is more before =
+    ap (λ (w : Written). with_findings w (map (stray_finding at) rest)) more
+    ∙ findings_append out (stray_finding at line ∷ []) (map (stray_finding at) rest)
+    ∙ sym (ap (λ (ls : List Stray). with_findings out (map (stray_finding at) ls)) is)
+    ∙ before
+
+pub gap_all : (at : ℕ) (whole out : Written) (lines : List Stray) → lines ≡ [] → with_findings out (map (stray_finding at) lines) ≡ whole → out ≡ whole
+gap_all at whole out lines none before =
+    sym (findings_none out) ∙ sym (ap (λ (ls : List Stray). with_findings out (map (stray_finding at) ls)) none) ∙ before
+
+-- ---- lists of names
+
+-- the findings on names, each lent
+abbrev pub refused_lent : ℕ → List (Bor Text) → List Finding
+refused_lent at names = flat_map (λ (name : Bor Text). found ManyCommas at name.now) names
+
+-- the finding on one more name
+pub refused_more : (at : ℕ) (start out out1 : Written) (names : List (Bor Text)) (n : ℕ) (name d : Bor Text) → n < length names → name ≡ get_or names n d → out1 ≡ with_findings out (found ManyCommas at name.now)
+    → out ≡ with_findings start (refused_lent at (take n names)) → out1 ≡ with_findings start (refused_lent at (take (n + 1) names))
+refused_more at start out out1 names n name d within is more before =
+    more
+    ∙ ap (λ (b : Bor Text). with_findings out (found ManyCommas at b.now)) is
+    ∙ ap (λ (w : Written). with_findings w (found ManyCommas at (get_or names n d).now)) before
+    ∙ findings_append start (refused_lent at (take n names)) (found ManyCommas at (get_or names n d).now)
+    ∙ ap (with_findings start) (lines_more (λ (b : Bor Text). found ManyCommas at b.now) names n d within)
+
+pub refused_all : (at : ℕ) (start out : Written) (names : List (Bor Text)) (n : ℕ) (all : List Text) → length names ≤ n → map (λ (b : Bor Text). b.now) names ≡ all
+    → out ≡ with_findings start (refused_lent at (take n names)) → out ≡ with_findings start (flat_map (found ManyCommas at) all)
+refused_all at start out names n all ends are before =
+    before
+    ∙ ap (λ (ns : List (Bor Text)). with_findings start (refused_lent at ns)) (take_all n names ends)
+    ∙ ap (with_findings start) (sym (flat_map-map (found ManyCommas at) (λ (b : Bor Text). b.now) names) ∙ ap (flat_map (found ManyCommas at)) are)
 
 -- ---- uses
 
@@ -81,33 +122,33 @@ uses_alone bytes says p start alone v ok same =
 -- ---- fields
 
 -- the fields left, in which nothing is found yet, after fields whose names were seen
-pub record IsLeft (own : Text → Option Text) (macros : Macros) (crossrefs : ℕ → List Finding) (whole out : Written) (seen : List Text → Type 0) (fields : List Field) : Type 0 where
+pub record IsLeft (own : Text → Option Text) (macros : Macros) (firsts : Field → Value → List Finding) (whole out : Written) (seen : List Text → Type 0) (fields : List Field) : Type 0 where
   pub names : List Text
   pub values : List Assigned
   pub are : AreFieldsOf values fields
   pub has : seen names
-  pub joined : with_findings out (field_findings own macros crossrefs names fields values) ≡ whole
+  pub joined : with_findings out (field_findings own macros firsts names fields values) ≡ whole
 
-pub record IsFinding (own : Text → Option Text) (macros : Macros) (crossrefs : ℕ → List Finding) (all : List Field) (start out : Written) (seen : List Text → Type 0) (fields : List Field) : Type 0 where
+pub record IsFinding (own : Text → Option Text) (macros : Macros) (firsts : Field → Value → List Finding) (all : List Field) (start out : Written) (seen : List Text → Type 0) (fields : List Field) : Type 0 where
   pub sound : AreSound fields
-  pub left : (values : List Assigned) → AreFieldsOf values all → IsLeft own macros crossrefs (with_findings start (field_findings own macros crossrefs [] all values)) out seen fields
+  pub left : (values : List Assigned) → AreFieldsOf values all → IsLeft own macros firsts (with_findings start (field_findings own macros firsts [] all values)) out seen fields
 
-pub finding_start : (own : Text → Option Text) (macros : Macros) (crossrefs : ℕ → List Finding) (all : List Field) (start : Written) (seen : List Text → Type 0)
-    → AreSound all → seen [] → IsFinding own macros crossrefs all start start seen all
-finding_start own macros crossrefs all start seen sound none = record {
+pub finding_start : (own : Text → Option Text) (macros : Macros) (firsts : Field → Value → List Finding) (all : List Field) (start : Written) (seen : List Text → Type 0)
+    → AreSound all → seen [] → IsFinding own macros firsts all start start seen all
+finding_start own macros firsts all start seen sound none = record {
   sound = sound;
   left = λ values are. record { names = []; values = values; are = are; has = none; joined = refl };
 }
 
-left_more : (own : Text → Option Text) (macros : Macros) (crossrefs : ℕ → List Finding) (whole out out1 out2 : Written) (old new : List Text → Type 0) (field : Field) (fields : List Field)
-    → ((names : List Text) → old names → out1 ≡ with_findings out (name_findings crossrefs names field))
+left_more : (own : Text → Option Text) (macros : Macros) (firsts : Field → Value → List Finding) (whole out out1 out2 : Written) (old new : List Text → Type 0) (field : Field) (fields : List Field)
+    → ((names : List Text) → old names → OfValue field.value (λ x. out1 ≡ with_findings out (name_findings firsts names field x)))
     → OfValue field.value (λ x. out2 ≡ with_findings out1 (value_findings (own field.name) macros field.value_at x))
     → ((names : List Text) → old names → new (field.name ∷ names))
-    → IsLeft own macros crossrefs whole out old (field ∷ fields) → IsLeft own macros crossrefs whole out2 new fields
-left_more own macros crossrefs whole out out1 out2 old new field fields named uses with is = go is.names is.values is.are is.has is.joined
+    → IsLeft own macros firsts whole out old (field ∷ fields) → IsLeft own macros firsts whole out2 new fields
+left_more own macros firsts whole out out1 out2 old new field fields named uses with is = go is.names is.values is.are is.has is.joined
   where
     go : (names : List Text) (values : List Assigned) → AreFieldsOf values (field ∷ fields) → old names
-        → with_findings out (field_findings own macros crossrefs names (field ∷ fields) values) ≡ whole → IsLeft own macros crossrefs whole out2 new fields
+        → with_findings out (field_findings own macros firsts names (field ∷ fields) values) ≡ whole → IsLeft own macros firsts whole out2 new fields
     go names [] are has joined = absurd are
     go names (a ∷ values) are has joined = record {
       names = field.name ∷ names;
@@ -115,27 +156,27 @@ left_more own macros crossrefs whole out out1 out2 old new field fields named us
       are = are.1;
       has = with names has;
       joined =
-          let rest : List Finding = field_findings own macros crossrefs (field.name ∷ names) fields values in
+          let rest : List Finding = field_findings own macros firsts (field.name ∷ names) fields values in
           ap (λ (w : Written). with_findings w rest)
-          (uses a.1 are.0.value are.0.bytes ∙ ap (λ (w : Written). with_findings w (value_findings (own field.name) macros field.value_at a.1)) (named names has)
-          ∙ findings_append out (name_findings crossrefs names field) (value_findings (own field.name) macros field.value_at a.1))
-          ∙ findings_append out (name_findings crossrefs names field ++ value_findings (own field.name) macros field.value_at a.1) rest
-          ∙ ap (with_findings out) (append_assoc (name_findings crossrefs names field) (value_findings (own field.name) macros field.value_at a.1) rest)
+          (uses a.1 are.0.value are.0.bytes ∙ ap (λ (w : Written). with_findings w (value_findings (own field.name) macros field.value_at a.1)) (named names has a.1 are.0.value are.0.bytes)
+          ∙ findings_append out (name_findings firsts names field a.1) (value_findings (own field.name) macros field.value_at a.1))
+          ∙ findings_append out (name_findings firsts names field a.1 ++ value_findings (own field.name) macros field.value_at a.1) rest
+          ∙ ap (with_findings out) (append_assoc (name_findings firsts names field a.1) (value_findings (own field.name) macros field.value_at a.1) rest)
           ∙ joined;
     }
 
-pub finding_more : (own : Text → Option Text) (macros : Macros) (crossrefs : ℕ → List Finding) (all : List Field) (start out out1 out2 : Written) (old new : List Text → Type 0) (field : Field) (fields : List Field)
-    → ((names : List Text) → old names → out1 ≡ with_findings out (name_findings crossrefs names field))
+pub finding_more : (own : Text → Option Text) (macros : Macros) (firsts : Field → Value → List Finding) (all : List Field) (start out out1 out2 : Written) (old new : List Text → Type 0) (field : Field) (fields : List Field)
+    → ((names : List Text) → old names → OfValue field.value (λ x. out1 ≡ with_findings out (name_findings firsts names field x)))
     → OfValue field.value (λ x. out2 ≡ with_findings out1 (value_findings (own field.name) macros field.value_at x))
     → ((names : List Text) → old names → new (field.name ∷ names))
-    → IsFinding own macros crossrefs all start out old (field ∷ fields) → IsFinding own macros crossrefs all start out2 new fields
-finding_more own macros crossrefs all start out out1 out2 old new field fields named uses with is = record {
+    → IsFinding own macros firsts all start out old (field ∷ fields) → IsFinding own macros firsts all start out2 new fields
+finding_more own macros firsts all start out out1 out2 old new field fields named uses with is = record {
   sound = is.sound.1;
-  left = λ values are. left_more own macros crossrefs _ out out1 out2 old new field fields named uses with (is.left values are);
+  left = λ values are. left_more own macros firsts _ out out1 out2 old new field fields named uses with (is.left values are);
 }
 
-pub finding_all : (own : Text → Option Text) (macros : Macros) (crossrefs : ℕ → List Finding) (all : List Field) (start out : Written) (seen : List Text → Type 0)
-    → IsFinding own macros crossrefs all start out seen [] → (values : List Assigned) → AreFieldsOf values all → out ≡ with_findings start (field_findings own macros crossrefs [] all values)
-finding_all own macros crossrefs all start out seen is values are =
-    let left : IsLeft own macros crossrefs (with_findings start (field_findings own macros crossrefs [] all values)) out seen [] = is.left values are in
+pub finding_all : (own : Text → Option Text) (macros : Macros) (firsts : Field → Value → List Finding) (all : List Field) (start out : Written) (seen : List Text → Type 0)
+    → IsFinding own macros firsts all start out seen [] → (values : List Assigned) → AreFieldsOf values all → out ≡ with_findings start (field_findings own macros firsts [] all values)
+finding_all own macros firsts all start out seen is values are =
+    let left : IsLeft own macros firsts (with_findings start (field_findings own macros firsts [] all values)) out seen [] = is.left values are in
     sym (findings_none out) ∙ left.joined

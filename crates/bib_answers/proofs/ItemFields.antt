@@ -1,5 +1,5 @@
 -- The fields that a view tells of an item.
-use Rattle.bib_answers.proofs.Words.{⊎_elim, ◌≡◌, ◌∙◌, ℕ, suc, ◌<◌, ◌≤◌, Bool, true, false, List, [], ◌∷◌, ◌++◌, length, map, Some, All, slice_get, refl, sym, ap, subst, append-nil, append_assoc, false≢true, slice_get_within, slice_get_cases, Text, Tree, CommentTree, DefinitionTree, PreambleTree}
+use Rattle.bib_answers.proofs.Words.{⊎_elim, ◌≡◌, ◌∙◌, ℕ, suc, ◌<◌, ◌≤◌, Bool, true, false, List, [], ◌∷◌, ◌++◌, length, map, Some, All, slice_get, refl, sym, ap, subst, append-nil, append_assoc, false≢true, slice_get_within, get_or_from_slice_get, slice_get_cases, Text, Tree, CommentTree, DefinitionTree, PreambleTree}
 use Rattle.bib_answers.proofs.Words.{EntryTree, Item, Reading, months, macros_at, entries_of, is_repeated, View, Field, view_of, fields_of, kind_of, key_of, is_entry_tree, entry_items, Assigned, assigned, defined_in, field_reports, reports_on, entries_before, AreFieldsOf, AreSound}
 use Rattle.std.proofs.Common.{option_and_then, arith}
 use Rattle.bib_spec.specs.Bytes.{name_limit}
@@ -68,6 +68,13 @@ viewed file db n view reads within views = ⊎_elim
     })
     (λ b. absurd (let few = b.0 in omega (arith, within, few)))
     (slice_get_cases db.items n).1
+
+-- its tree is one of the grammar
+pub viewed_tree : (file : Text) (db : Reading) (n : ℕ) (view : View) → Reads file db → (is : IsViewed db n view) → IsTree name_limit is.item.tree
+viewed_tree file db n view reads is =
+    let within = slice_get_within db.items n is.item is.at in
+    let item : IsItem name_limit is.item = subst (IsItem name_limit) (get_or_from_slice_get db.items n is.item is.item is.at) (reads.items n is.item within) in
+    item.tree
 
 pub viewed_sound : (db : Reading) (n : ℕ) (view : View) → IsViewed db n view → AreSound view.fields
 viewed_sound db n view is = sound_of (assigned is.item.tree) view.fields is.fields

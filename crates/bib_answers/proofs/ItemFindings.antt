@@ -1,9 +1,10 @@
 -- The findings in an item, by its view.
-use Rattle.bib_answers.proofs.Words.{◌≡◌, ◌∙◌, ℕ, Bool, true, false, List, [], ◌++◌, refl, sym, ap, false≢true, Text, Tree, CommentTree, DefinitionTree, PreambleTree, EntryTree, Reading, Macros, months, macros_at, entries_of, is_repeated, View, fields_of, kind_of, key_of, is_entry_tree, assigned}
+use Rattle.bib_answers.proofs.Words.{◌≡◌, ◌∙◌, ℕ, Bool, true, false, List, [], ◌++◌, refl, sym, ap, false≢true, Text, Tree, CommentTree, DefinitionTree, PreambleTree, EntryTree, Reading, Macros, months, macros_at, entries_of, is_repeated, View, Field, fields_of, kind_of, key_of, is_entry_tree, assigned}
 use Rattle.bib_answers.proofs.Words.{defined_in, entries_before, Finding, field_findings, crossrefs_of, Written, with_findings}
 use Rattle.std.proofs.Math.Path.{fun_ext}
-use Rattle.bib_scan.specs.View.{key_place}
-use Rattle.bib_answers.specs.Lint.{key_findings, for_entry, item_findings, findings_on}
+use Rattle.bib_spec.specs.Tree.{Value}
+use Rattle.bib_scan.specs.View.{head_of, key_place}
+use Rattle.bib_answers.specs.Lint.{key_findings, for_entry, redefines, first_findings, item_findings, findings_in_body, trail_findings, findings_in_trail, findings_on}
 use Rattle.bib_scan.specs.Layout.{start_of}
 use Rattle.bib_answers.specs.FindingLines.{at_item}
 use Rattle.bib_answers.proofs.ItemFields.{IsViewed}
@@ -21,9 +22,23 @@ other_has (DefinitionTree d) xs is = refl
 other_has (PreambleTree p) xs is = refl
 other_has (EntryTree e) xs is = absurd (false≢true (sym is))
 
+-- the findings in the first fields of an item that is no entry have nothing of a crossref
+other_firsts : (tree : Tree) (macros : Macros) (redefined : Bool) (crossrefs others : ℕ → List Finding) → is_entry_tree tree ≡ false → first_findings (kind_of tree) macros redefined crossrefs ≡ first_findings (kind_of tree) macros redefined others
+other_firsts (CommentTree h) macros redefined crossrefs others is = refl
+other_firsts (DefinitionTree d) macros redefined crossrefs others is = refl
+other_firsts (PreambleTree p) macros redefined crossrefs others is = refl
+other_firsts (EntryTree e) macros redefined crossrefs others is = absurd (false≢true (sym is))
+
+-- those of an entry have nothing of a macro
+entry_firsts : (tree : Tree) (macros : Macros) (redefined other : Bool) (crossrefs : ℕ → List Finding) → is_entry_tree tree ≡ true → first_findings (kind_of tree) macros redefined crossrefs ≡ first_findings (kind_of tree) macros other crossrefs
+entry_firsts (CommentTree h) macros redefined other crossrefs is = absurd (false≢true is)
+entry_firsts (DefinitionTree d) macros redefined other crossrefs is = absurd (false≢true is)
+entry_firsts (PreambleTree p) macros redefined other crossrefs is = absurd (false≢true is)
+entry_firsts (EntryTree e) macros redefined other crossrefs is = refl
+
 -- the findings in an item's fields, by its view
-abbrev pub view_findings : Reading → ℕ → (ℕ → List Finding) → View → Tree → List Finding
-view_findings db n crossrefs view tree = field_findings (defined_in view.kind) (macros_at months db.items n) crossrefs [] view.fields (assigned tree)
+abbrev pub view_findings : Reading → ℕ → Bool → (ℕ → List Finding) → View → Tree → List Finding
+view_findings db n redefined crossrefs view tree = field_findings (defined_in view.kind) (macros_at months db.items n) (first_findings view.kind (macros_at months db.items n) redefined crossrefs) [] view.fields (assigned tree)
 
 module _ (db : Reading) (n : ℕ) (view : View) (is : IsViewed db n view) where
   abbrev tree : Tree
@@ -32,64 +47,82 @@ module _ (db : Reading) (n : ℕ) (view : View) (is : IsViewed db n view) where
   abbrev e : ℕ
   e = entries_before db n
 
-  abbrev of_fields : (ℕ → List Finding) → List Finding
-  of_fields crossrefs = field_findings (defined_in (kind_of tree)) (macros_at months db.items n) crossrefs [] (fields_of tree) (assigned tree)
+  abbrev again : Bool
+  again = redefines db.items n tree
 
-  by_view : (crossrefs : ℕ → List Finding) → view_findings db n crossrefs view tree ≡ of_fields crossrefs
-  by_view crossrefs = ap (λ (v : View). view_findings db n crossrefs v tree) is.view_is
+  abbrev of_fields : (Field → Value → List Finding) → List Finding
+  of_fields firsts = field_findings (defined_in (kind_of tree)) (macros_at months db.items n) firsts [] (fields_of tree) (assigned tree)
 
-  on_item : findings_on db n ≡ item_findings (entries_of db) (macros_at months db.items n) e tree
+  by_view : (redefined : Bool) (crossrefs : ℕ → List Finding) → view_findings db n redefined crossrefs view tree ≡ of_fields (first_findings (kind_of tree) (macros_at months db.items n) redefined crossrefs)
+  by_view redefined crossrefs = ap (λ (v : View). view_findings db n redefined crossrefs v tree) is.view_is
+
+  on_item : findings_in_body db n ≡ item_findings (entries_of db) (macros_at months db.items n) again e tree
   on_item = rw is.at refl
 
   -- of another item than an entry
-  pub other_found : (crossrefs : ℕ → List Finding) → is_entry_tree is.item.tree ≡ false → ((at : ℕ) → crossrefs at ≡ []) → view_findings db n crossrefs view is.item.tree ≡ findings_on db n
-  other_found crossrefs other none =
-      by_view crossrefs
-      ∙ ap of_fields (fun_ext (λ at. none at ∙ sym (other_has tree (crossrefs_of (entries_of db) e at) other)))
-      ∙ ap (λ (fs : List Finding). fs ++ of_fields (λ at. for_entry (kind_of tree) (crossrefs_of (entries_of db) e at)))
-      (sym (other_has tree (key_findings (key_place tree) (is_repeated (entries_of db) e) (key_of tree)) other))
+  pub other_found : (redefined : Bool) (crossrefs : ℕ → List Finding) → is_entry_tree is.item.tree ≡ false → redefined ≡ redefines db.items n is.item.tree → view_findings db n redefined crossrefs view is.item.tree ≡ findings_in_body db n
+  other_found redefined crossrefs other defines =
+      by_view redefined crossrefs
+      ∙ ap (λ (b : Bool). of_fields (first_findings (kind_of tree) (macros_at months db.items n) b crossrefs)) defines
+      ∙ ap of_fields (other_firsts tree (macros_at months db.items n) again crossrefs (crossrefs_of (entries_of db) e) other)
+      ∙ ap (λ (fs : List Finding). fs ++ of_fields (first_findings (kind_of tree) (macros_at months db.items n) again (crossrefs_of (entries_of db) e)))
+      (sym (other_has tree (key_findings (key_place tree) (head_of tree).type_name (is_repeated (entries_of db) e) (key_of tree)) other))
       ∙ sym on_item
 
   -- of an entry
-  pub entry_found : (crossrefs : ℕ → List Finding) → is_entry_tree is.item.tree ≡ true → ((at : ℕ) → crossrefs at ≡ crossrefs_of (entries_of db) e at)
-      → key_findings view.key_at (is_repeated (entries_of db) e) view.key ++ view_findings db n crossrefs view is.item.tree ≡ findings_on db n
-  entry_found crossrefs entry are =
-      ap (λ (fs : List Finding). key_findings view.key_at (is_repeated (entries_of db) e) view.key ++ fs)
-      (by_view crossrefs ∙ ap of_fields (fun_ext (λ at. are at ∙ sym (entry_has tree (crossrefs_of (entries_of db) e at) entry))))
-      ∙ ap (λ (v : View). key_findings v.key_at (is_repeated (entries_of db) e) v.key ++ of_fields (λ at. for_entry (kind_of tree) (crossrefs_of (entries_of db) e at))) is.view_is
-      ∙ ap (λ (fs : List Finding). fs ++ of_fields (λ at. for_entry (kind_of tree) (crossrefs_of (entries_of db) e at)))
-      (sym (entry_has tree (key_findings (key_place tree) (is_repeated (entries_of db) e) (key_of tree)) entry))
+  pub entry_found : (redefined : Bool) (crossrefs : ℕ → List Finding) → is_entry_tree is.item.tree ≡ true → ((at : ℕ) → crossrefs at ≡ crossrefs_of (entries_of db) e at)
+      → key_findings view.key_at view.type_name (is_repeated (entries_of db) e) view.key ++ view_findings db n redefined crossrefs view is.item.tree ≡ findings_in_body db n
+  entry_found redefined crossrefs entry are =
+      ap (λ (fs : List Finding). key_findings view.key_at view.type_name (is_repeated (entries_of db) e) view.key ++ fs)
+      (by_view redefined crossrefs
+      ∙ ap (λ (c : ℕ → List Finding). of_fields (first_findings (kind_of tree) (macros_at months db.items n) redefined c)) (fun_ext are)
+      ∙ ap of_fields (entry_firsts tree (macros_at months db.items n) redefined again (crossrefs_of (entries_of db) e) entry))
+      ∙ ap (λ (v : View). key_findings v.key_at v.type_name (is_repeated (entries_of db) e) v.key ++ of_fields (first_findings (kind_of tree) (macros_at months db.items n) again (crossrefs_of (entries_of db) e))) is.view_is
+      ∙ ap (λ (fs : List Finding). fs ++ of_fields (first_findings (kind_of tree) (macros_at months db.items n) again (crossrefs_of (entries_of db) e)))
+      (sym (entry_has tree (key_findings (key_place tree) (head_of tree).type_name (is_repeated (entries_of db) e) (key_of tree)) entry))
       ∙ sym on_item
 
   -- the lines of another item than an entry, which begins there
-  pub other_written : (crossrefs : ℕ → List Finding) (macros : Macros) (w begun out : Written) (start : ℕ) → is_entry_tree is.item.tree ≡ false → ((at : ℕ) → crossrefs at ≡ [])
+  pub other_written : (redefined : Bool) (crossrefs : ℕ → List Finding) (macros : Macros) (w begun out : Written) (start : ℕ) → is_entry_tree is.item.tree ≡ false → redefined ≡ redefines db.items n is.item.tree
       → macros ≡ macros_at months db.items n → begun ≡ at_item w start → start ≡ start_of db n
-      → out ≡ with_findings begun (field_findings (defined_in view.kind) macros crossrefs [] view.fields (assigned is.item.tree))
-      → out ≡ with_findings (at_item w (start_of db n)) (findings_on db n)
-  other_written crossrefs macros w begun out start other none macros_are begins starts written =
+      → out ≡ with_findings begun (field_findings (defined_in view.kind) macros (first_findings view.kind macros redefined crossrefs) [] view.fields (assigned is.item.tree))
+      → out ≡ with_findings (at_item w (start_of db n)) (findings_in_body db n)
+  other_written redefined crossrefs macros w begun out start other defines macros_are begins starts written =
       written
-      ∙ ap (λ (m : Macros). with_findings begun (field_findings (defined_in view.kind) m crossrefs [] view.fields (assigned is.item.tree))) macros_are
-      ∙ ap (λ (b : Written). with_findings b (view_findings db n crossrefs view is.item.tree)) (begins ∙ ap (at_item w) starts)
-      ∙ ap (with_findings (at_item w (start_of db n))) (other_found crossrefs other none)
+      ∙ ap (λ (m : Macros). with_findings begun (field_findings (defined_in view.kind) m (first_findings view.kind m redefined crossrefs) [] view.fields (assigned is.item.tree))) macros_are
+      ∙ ap (λ (b : Written). with_findings b (view_findings db n redefined crossrefs view is.item.tree)) (begins ∙ ap (at_item w) starts)
+      ∙ ap (with_findings (at_item w (start_of db n))) (other_found redefined crossrefs other defines)
 
   -- the lines of an entry
-  pub entry_written : (crossrefs : ℕ → List Finding) (macros : Macros) (w begun keyed out : Written) (start key_at : ℕ) (repeated : Bool) (key : Text) → is_entry_tree is.item.tree ≡ true
+  pub entry_written : (redefined : Bool) (crossrefs : ℕ → List Finding) (macros : Macros) (w begun keyed out : Written) (start key_at : ℕ) (typed : Text) (repeated : Bool) (key : Text) → is_entry_tree is.item.tree ≡ true
       → ((at : ℕ) → crossrefs at ≡ crossrefs_of (entries_of db) (entries_before db n) at)
       → macros ≡ macros_at months db.items n → begun ≡ at_item w start → start ≡ start_of db n
-      → key_at ≡ view.key_at → repeated ≡ is_repeated (entries_of db) (entries_before db n) → key ≡ view.key
-      → keyed ≡ with_findings begun (key_findings key_at repeated key)
-      → out ≡ with_findings keyed (field_findings (defined_in view.kind) macros crossrefs [] view.fields (assigned is.item.tree))
-      → out ≡ with_findings (at_item w (start_of db n)) (findings_on db n)
-  entry_written crossrefs macros w begun keyed out start key_at repeated key entry are macros_are begins starts places repeats keys key_written written =
+      → key_at ≡ view.key_at → typed ≡ view.type_name → repeated ≡ is_repeated (entries_of db) (entries_before db n) → key ≡ view.key
+      → keyed ≡ with_findings begun (key_findings key_at typed repeated key)
+      → out ≡ with_findings keyed (field_findings (defined_in view.kind) macros (first_findings view.kind macros redefined crossrefs) [] view.fields (assigned is.item.tree))
+      → out ≡ with_findings (at_item w (start_of db n)) (findings_in_body db n)
+  entry_written redefined crossrefs macros w begun keyed out start key_at typed repeated key entry are macros_are begins starts places types repeats keys key_written written =
       let there : Written = at_item w (start_of db n) in
-      let first : keyed ≡ with_findings there (key_findings view.key_at (is_repeated (entries_of db) (entries_before db n)) view.key) =
+      let first : keyed ≡ with_findings there (key_findings view.key_at view.type_name (is_repeated (entries_of db) (entries_before db n)) view.key) =
       key_written
-      ∙ ap (λ (b : Written). with_findings b (key_findings key_at repeated key)) (begins ∙ ap (at_item w) starts)
-      ∙ ap (λ (k : ℕ). with_findings there (key_findings k repeated key)) places
-      ∙ ap (λ (b : Bool). with_findings there (key_findings view.key_at b key)) repeats
-      ∙ ap (λ (k : Text). with_findings there (key_findings view.key_at (is_repeated (entries_of db) (entries_before db n)) k)) keys in
+      ∙ ap (λ (b : Written). with_findings b (key_findings key_at typed repeated key)) (begins ∙ ap (at_item w) starts)
+      ∙ ap (λ (k : ℕ). with_findings there (key_findings k typed repeated key)) places
+      ∙ ap (λ (t : Text). with_findings there (key_findings view.key_at t repeated key)) types
+      ∙ ap (λ (b : Bool). with_findings there (key_findings view.key_at view.type_name b key)) repeats
+      ∙ ap (λ (k : Text). with_findings there (key_findings view.key_at view.type_name (is_repeated (entries_of db) (entries_before db n)) k)) keys in
       written
-      ∙ ap (λ (m : Macros). with_findings keyed (field_findings (defined_in view.kind) m crossrefs [] view.fields (assigned is.item.tree))) macros_are
-      ∙ ap (λ (k : Written). with_findings k (view_findings db n crossrefs view is.item.tree)) first
-      ∙ findings_append there (key_findings view.key_at (is_repeated (entries_of db) (entries_before db n)) view.key) (view_findings db n crossrefs view is.item.tree)
-      ∙ ap (with_findings there) (entry_found crossrefs entry are)
+      ∙ ap (λ (m : Macros). with_findings keyed (field_findings (defined_in view.kind) m (first_findings view.kind m redefined crossrefs) [] view.fields (assigned is.item.tree))) macros_are
+      ∙ ap (λ (k : Written). with_findings k (view_findings db n redefined crossrefs view is.item.tree)) first
+      ∙ findings_append there (key_findings view.key_at view.type_name (is_repeated (entries_of db) (entries_before db n)) view.key) (view_findings db n redefined crossrefs view is.item.tree)
+      ∙ ap (with_findings there) (entry_found redefined crossrefs entry are)
+
+  -- the lines of the body, and then those of the trail
+  pub item_written : (w body out : Written) → body ≡ with_findings (at_item w (start_of db n)) (findings_in_body db n) → out ≡ with_findings body (trail_findings is.item)
+      → out ≡ with_findings (at_item w (start_of db n)) (findings_on db n)
+  item_written w body out body_written written =
+      let there : Written = at_item w (start_of db n) in
+      let trail : findings_in_trail db n ≡ trail_findings is.item = rw is.at refl in
+      written
+      ∙ ap (λ (b : Written). with_findings b (trail_findings is.item)) body_written
+      ∙ findings_append there (findings_in_body db n) (trail_findings is.item)
+      ∙ ap (λ (fs : List Finding). with_findings there (findings_in_body db n ++ fs)) (sym trail)

@@ -12,7 +12,9 @@ pub mod ReportSteps
 pub mod PositionSteps
 pub mod FindingSteps
 pub mod ItemFindings
+pub mod PlainTexts
 -- ---- cited lists, labels and names
+pub mod AnyOf
 pub mod CitedNumbers
 pub mod LabelLines
 pub mod NewKeyLines

@@ -1,5 +1,5 @@
 -- `check`: what is in a file, and what is wrong with it. Each report is a line.
-use Rattle.std.specs.Prelude.{ℕ, Bool, ◌==◌, nat_lt, List, [], ◌∷◌, ◌++◌, length, take, map, count_by, Option, None, Some, is_none, if◌then◌else◌, option_and_then, slice_get, codes}
+use Rattle.std.specs.Prelude.{ℕ, Bool, ◌==◌, ◌-◌, nat_lt, List, [], ◌∷◌, ◌++◌, length, take, map, count_by, Option, None, Some, is_none, if◌then◌else◌, option_and_then, slice_get, codes}
 use Rattle.std.specs.Fmt.{decimal}
 use Rattle.std.specs.List.{flat_map, list_any, range_with_len}
 use Rattle.std.specs.Option.{option_map_or}
@@ -139,6 +139,16 @@ reports_on db n =
 -- the reports on all items, in order
 abbrev pub all_reports : Reading → Text
 all_reports db = flat_map (reports_on db) (range_with_len 0 (length db.items))
+
+-- the output of `check` over files with this many seams between them, none of which is counted: the counts, and then the reports
+abbrev pub checked_without : ℕ → Reading → Text
+checked_without seams db =
+    count_lines (length db.items - seams) (length (entries_of db)) (count_items is_definition_tree db) (length (preambles_of db)) (count_items is_comment db - seams)
+    ++ all_reports db
+
+-- `check F` over files with this many seams between them
+abbrev pub check_answer_without : ℕ → Reading → Answer
+check_answer_without seams db = answer_of (checked_without seams db) [] 0
 
 -- the output of `check`: the counts, and then the reports
 abbrev pub checked : Reading → Text

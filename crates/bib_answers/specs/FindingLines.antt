@@ -3,14 +3,13 @@ use Rattle.std.specs.Prelude.{ℕ, List, ◌++◌}
 use Rattle.std.specs.List.{flat_map}
 use Rattle.bib_spec.specs.Text.{Text}
 use Rattle.bib_scan.specs.declared.fault.ReadFault.{ReadFault}
-use Rattle.bib_answers.specs.Lint.{Finding, finding_line, error_line}
-use Rattle.bib_answers.specs.Positions.{position_of}
+use Rattle.bib_answers.specs.Lint.{Finding, finding_line, error_line, name_at, place_at}
 
--- the codes that are ignored, the file's name and bytes, where the item that is looked at begins, and the lines so far
+-- the codes that are ignored, the names and bytes of the files, where the item that is looked at begins, and the lines so far
 pub record Written : Type 0 where
   pub ignored : List Text
-  pub name : Text
-  pub file : Text
+  pub names : List Text
+  pub files : List Text
   pub start : ℕ
   pub text : Text
 
@@ -20,8 +19,8 @@ at_item w start = record w { start = start }
 
 -- with the lines of these findings added, but for those whose codes are ignored
 abbrev pub with_findings : Written → List Finding → Written
-with_findings w findings = record w { text = w.text ++ flat_map (finding_line w.ignored w.name w.file w.start) findings }
+with_findings w findings = record w { text = w.text ++ flat_map (finding_line w.ignored w.names w.files w.start) findings }
 
--- with the lines of these faults of reading added, each with its place in the file
+-- with the lines of these faults of reading added, each with its place
 abbrev pub with_faults : Written → List ReadFault → Written
-with_faults w faults = record w { text = w.text ++ flat_map (λ fault. error_line w.name (position_of w.file fault.place) fault.kind) faults }
+with_faults w faults = record w { text = w.text ++ flat_map (λ fault. error_line (name_at w.names w.files fault.place) (place_at w.files fault.place) fault.kind) faults }

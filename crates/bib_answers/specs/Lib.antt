@@ -24,3 +24,4 @@ pub mod FindingLines
 pub mod LintedThrough
 pub mod Json
 pub mod Entry
+pub mod NamedFiles

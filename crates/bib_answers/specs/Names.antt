@@ -111,6 +111,12 @@ pub data Spells (bytes : Text) : Option Pattern → Type 0 where
   spelled : (t : Pattern) → IsTemplate t → bytes ≡ spelling t → Spells bytes (Some t)
   misspelled : ((t : Pattern) → IsTemplate t → bytes ≡ spelling t → ⊥) → Spells bytes None
 
+-- what `names` answers to what the file says
+pub record AnswersNames (depth : ℕ) (key template : Text) (db : Reading) (answer : Answer) : Type 0 where
+  pub pattern : Option Pattern
+  pub spells : Spells template pattern
+  pub answers : answer ≡ names_answer depth key pattern db
+
 -- `names F KEY TEMPLATE`: the names of the first entry with this key, printed by this template, a line each; or, with
 -- nothing written, why not: no entry has the key, or else the bytes are no template, or else a list of names does not
 -- balance, or else a name has too many commas

@@ -5,7 +5,7 @@ ghost use Rattle.bib_spec.specs.Tree.{is_comment};
 ghost use Rattle.bib_store.specs.Readings.{OfReading, IsItemNumber};
 ghost use Rattle.bib_answers.specs.Opened.{AnswersFile};
 ghost use Rattle.bib_definitions.specs.Definitions.{is_definition_tree};
-ghost use Rattle.bib_answers.specs.Check.{count_items, count_lines, all_reports, check_answer};
+ghost use Rattle.bib_answers.specs.Check.{count_items, count_lines, all_reports, check_answer, check_answer_without};
 ghost use Rattle.bib_answers.specs.LookedThrough.{IsFoundBefore};
 
 use crate::answers::{Answer, done};
@@ -25,20 +25,22 @@ const REPORT_LEN: usize = 32;
 pub fn answer_check(alloc: Global, file: Vec<u8>) -> Result<Answer, AllocError>
     ensures { IfOk result (AnswersFile check_answer file.items) }
 {
-    answer_file(alloc, file, |db| check(alloc, db))
+    answer_file(alloc, file, |db| check_in(alloc, db, 0))
 }
 
-fn check(alloc: Global, db: &Database<Paged>) -> Result<Answer, AllocError>
-    ensures { IfOk result (λ answer. OfReading db.now (λ r. answer ≡ check_answer r)) }
+/// What is in an open file, and what is wrong with it; or in files that were joined with this many seams, which are not counted.
+/// It takes time in the file's length, and memory for the reports and for the names of an item's fields.
+pub fn check_in(alloc: Global, db: &Database<Paged>, seams: usize) -> Result<Answer, AllocError>
+    ensures { IfOk result (λ answer. OfReading db.now (λ r. answer ≡ check_answer_without seams r)) }
 {
     let found = look_through(alloc, db)?;
     let counts = format!(in alloc;
         "items {}\nentries {}\nmacros {}\npreambles {}\ncomments {}\n",
-        db.item_count(),
+        db.item_count().saturating_sub(seams),
         db.entry_count(),
         found.definitions,
         db.preamble_count(),
-        found.comments
+        found.comments.saturating_sub(seams)
     )?;
     let out = put_first(counts.as_bytes(), found.reports)?;
     Ok(done(alloc, Text::from_vec(out)))

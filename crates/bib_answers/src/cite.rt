@@ -31,10 +31,11 @@ pub fn answer_cite(
     requires { 1 ≤ min }
     ensures { IfOk result (AnswersFile (cite_answer strict keys.now min) file.items) }
 {
-    answer_file(alloc, file, |db| cite(alloc, db, keys, min, strict))
+    answer_file(alloc, file, |db| cite_in(alloc, db, keys, min, strict))
 }
 
-fn cite(
+/// What `answer_cite` answers, for a file that is open. It takes time in the number of entries and keys, and memory for the list.
+pub fn cite_in(
     alloc: Global,
     db: &Database<Paged>,
     keys: &[Text],

@@ -27,10 +27,11 @@ pub fn answer_entry(
 ) -> Result<Answer, AllocError>
     ensures { IfOk result (AnswersFile (entry_answer at keys.now) file.items) }
 {
-    answer_file(alloc, file, |db| entries(alloc, db, keys, at))
+    answer_file(alloc, file, |db| entries_in(alloc, db, keys, at))
 }
 
-fn entries(
+/// What `answer_entry` answers, for a file that is open.
+pub fn entries_in(
     alloc: Global,
     db: &Database<Paged>,
     keys: &[Text],

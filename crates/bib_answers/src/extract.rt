@@ -18,10 +18,11 @@ use std::alloc::{AllocError, Global};
 pub fn answer_extract(alloc: Global, file: Vec<u8>, keys: &[Text]) -> Result<Answer, AllocError>
     ensures { IfOk result (AnswersFile (extract_answer keys.now) file.items) }
 {
-    answer_file(alloc, file, |db| part(alloc, db, keys))
+    answer_file(alloc, file, |db| extract_in(alloc, db, keys))
 }
 
-fn part(alloc: Global, db: &Database<Paged>, keys: &[Text]) -> Result<Answer, AllocError>
+/// What `answer_extract` answers, for a file that is open. It takes time in the number of items and keys, and memory for the extract.
+pub fn extract_in(alloc: Global, db: &Database<Paged>, keys: &[Text]) -> Result<Answer, AllocError>
     ensures { IfOk result (λ answer. OfReading db.now (λ r. answer ≡ extract_answer keys.now r)) }
 {
     db.opens();

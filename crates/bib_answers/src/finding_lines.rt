@@ -1,40 +1,41 @@
 //! Findings that are written as lines.
 
-ghost use Rattle.std.specs.Prelude.{◌≡◌, ◌++◌, OnOk};
+ghost use Rattle.std.specs.Prelude.{◌≡◌, ◌+◌, ◌++◌, IfSome, OnOk};
 ghost use Rattle.bib_answers.specs.Lint.{placed_at, is_ignored, warning_line};
 
 use crate::lines::add_all;
 use crate::messages::fault_name;
-use crate::positions::{Known, Position, first_known, known_at};
+use crate::named_files::{NamedFiles, Reached, first_reached, reached_at};
+use crate::positions::Position;
 use crate::warnings::Warning;
 use bib_scan::{ReadFault, Text};
 use itoa::Buffer;
 use std::alloc::{AllocError, Global};
 use std::marker::Model;
 
-/// The lines of findings in a file. Each position is counted from the last one: if the places come in order, all of them
-/// together take time in the file's length. A finding whose code is ignored gets no line. A contract sees the ignored codes, the
-/// file's name and bytes, the place of the item in which
+/// The lines of findings in files that were read as one. Each position is counted from the last one: if the places come in order,
+/// all of them together take time in the length of the files, and a search in the list of files each. A finding whose code is
+/// ignored gets no line. A contract sees the ignored codes, the names and bytes of the files, the place of the item in which
 /// something is found, and the lines so far.
 #[derive(Drop)]
 pub struct FindingLines<'a> {
     ignored: &'a [Text],
-    name: &'a [u8],
-    file: &'a [u8],
+    files: &'a NamedFiles<'a>,
     start: usize,
     text: Vec<u8>,
-    known: Known,
+    reached: Reached,
 }
 
 impl<'a> Model for FindingLines<'a> {
+    ghost use Rattle.std.specs.Prelude.{[], slice_index_or};
     ghost use Rattle.bib_answers.specs.FindingLines.{Written};
     ghost use Rattle.bib_answers.specs.Positions.{IsKnown};
 
     ghost Value = { Written };
 
-    ghost view = { λ l. record { ignored = l.ignored.now; name = l.name.now; file = l.file.now; start = l.start; text = l.text.items } };
+    ghost view = { λ l. record { ignored = l.ignored.now; names = l.files.now.names; files = l.files.now.files; start = l.start; text = l.text.items } };
 
-    ghost invariant = { λ l. IsKnown l.file.now l.known };
+    ghost invariant = { λ l. IsKnown (slice_index_or l.files.now.files l.reached.file []) l.reached.known };
 }
 
 impl<'a> FindingLines<'a> {
@@ -42,17 +43,16 @@ impl<'a> FindingLines<'a> {
     ghost use Rattle.bib_answers.specs.Lint.{found};
     ghost use Rattle.bib_answers.specs.FindingLines.{Written, at_item, with_findings, with_faults};
 
-    /// No lines yet, of a file with this name and these bytes, for findings with other codes than these.
-    pub fn new(alloc: Global, ignored: &'a [Text], name: &'a [u8], file: &'a [u8]) -> Self
-        ensures { result ≡ (record { ignored = ignored.now; name = name.now; file = file.now; start = 0; text = [] }) }
+    /// No lines yet, of these files, for findings with other codes than these.
+    pub fn new(alloc: Global, ignored: &'a [Text], files: &'a NamedFiles<'a>) -> Self
+        ensures { result ≡ (record { ignored = ignored.now; names = files.now.names; files = files.now.files; start = 0; text = [] }) }
     {
         FindingLines {
             ignored,
-            name,
-            file,
+            files,
             start: 0,
             text: Vec::new(alloc),
-            known: first_known(),
+            reached: first_reached(),
         }
     }
 
@@ -77,9 +77,13 @@ impl<'a> FindingLines<'a> {
         if is_ignored(self.ignored, kind) {
             return Ok(());
         }
-        let place = self.start.saturating_add(at).saturating_add(more);
-        self.known = known_at(self.file, self.known, place);
-        add_warning(&mut self.text, self.name, self.known.at, kind, name)
+        // no text in memory has a place that is past every count
+        let Some(place) = place_after(self.start, at, more) else {
+            return Err(AllocError);
+        };
+        self.reached = reached_at(self.files, self.reached, place);
+        let file = self.files.name_at(place);
+        add_warning(&mut self.text, file, self.reached.known.at, kind, name)
     }
 
     /// Adds the line of a finding at a place in the item, about this name, key or text.
@@ -89,19 +93,20 @@ impl<'a> FindingLines<'a> {
         self.add_after(kind, at, 0, name)
     }
 
-    /// Adds the line of a fault of reading, whose place is counted from the beginning of the file.
+    /// Adds the line of a fault of reading.
     fn add_fault(&mut self, fault: &ReadFault) -> Result<(), AllocError>
         ensures { OnOk result (self.new ≡ with_faults self.old (fault.now ∷ [])) }
     {
-        self.known = known_at(self.file, self.known, fault.place);
-        add_place(&mut self.text, self.name, self.known.at)?;
+        self.reached = reached_at(self.files, self.reached, fault.place);
+        let file = self.files.name_at(fault.place);
+        add_place(&mut self.text, file, self.reached.known.at)?;
         let mut number = Buffer::new();
         let number = number.format(fault.kind).as_bytes();
         let name = fault_name(fault.kind).as_bytes();
         add_all(&mut self.text, &[b"error: ", number, b" ", name, b"\n"])
     }
 
-    /// Adds a line for each fault of reading. Their places are counted from the beginning of the file.
+    /// Adds a line for each fault of reading.
     pub fn add_faults(&mut self, faults: &[ReadFault]) -> Result<(), AllocError>
         ensures { OnOk result (self.new ≡ with_faults self.old faults.now) }
     {
@@ -117,6 +122,13 @@ impl<'a> FindingLines<'a> {
     {
         self.text
     }
+}
+
+/// The place so many bytes after another that is so many bytes after the start of an item, if it can be counted.
+fn place_after(start: usize, at: usize, more: usize) -> Option<usize>
+    ensures { IfSome result (λ place. place ≡ start + (at + more)) }
+{
+    start.checked_add(at)?.checked_add(more)
 }
 
 /// Adds the line of a finding at this position, about this name, key or text.

@@ -1,29 +1,33 @@
 //! What is found in one item.
 
-ghost use Rattle.std.specs.Prelude.{◌≡◌, ◌++◌, ◌+◌, ◌∷◌, ℕ, Bool, List, [], OnOk};
+ghost use Rattle.std.specs.Prelude.{◌≡◌, ◌++◌, ◌+◌, ◌∷◌, ℕ, Bool, List, [], if◌then◌else◌, OnOk};
 ghost use Rattle.std.specs.Option.{option_copied};
+ghost use Rattle.std.specs.Str.{is_utf8};
 ghost use Rattle.bib_spec.specs.Bytes.{name_limit};
 ghost use Rattle.bib_spec.specs.Text.{Text};
-ghost use Rattle.bib_spec.specs.Reading.{IsValueWithin};
+ghost use Rattle.bib_spec.specs.Reading.{Item, IsValueWithin};
 ghost use Rattle.bib_spec.specs.Records.{entries_of};
+ghost use Rattle.bib_spec.specs.Tree.{IsTree};
 ghost use Rattle.bib_scan.specs.Layout.{start_of};
 ghost use Rattle.bib_scan.specs.PartView.{part_view};
 ghost use Rattle.bib_scan.specs.ValueParts.{IsPartsOf};
-ghost use Rattle.bib_scan.specs.View.{field_seen};
+ghost use Rattle.bib_scan.specs.View.{field_seen, view_of};
 ghost use Rattle.bib_value.specs.Raw.{OfValue};
 ghost use Rattle.bib_store.specs.Readings.{OfReading, IsItemNumber, IsEntryNumber};
 ghost use Rattle.bib_answers.specs.Check.{Assigned, defined_in, entries_before};
-ghost use Rattle.bib_answers.specs.Fields.{Views, AreFieldsOf, AreSound};
-ghost use Rattle.bib_answers.specs.Lint.{use_findings, value_findings, name_findings, field_findings, grandparent, order_findings, nested_findings, target_findings, crossref_findings, crossrefs_of, repeated_findings, unusual_findings, key_findings, findings_on};
+ghost use Rattle.bib_answers.specs.Fields.{Views, IsKeyOf, AreFieldsOf, AreSound};
+ghost use Rattle.bib_answers.specs.Lint.{use_findings, value_findings, name_findings, entry_field_findings, is_defined_before, redefines, definition_findings, first_findings, field_findings, grandparent, order_findings, nested_findings, target_findings, has_empty_parents, empty_findings, crossref_findings, crossrefs_of, repeated_findings, unusual_findings, encoding_findings, found, key_findings, findings_in_body, trail_findings, findings_on};
 ghost use Rattle.bib_answers.specs.FindingLines.{at_item, with_findings};
 ghost use Rattle.bib_answers.specs.Recurring.{AreTold};
 ghost use Rattle.bib_answers.specs.Seen.{HaveSeen};
 
 use crate::finding_lines::FindingLines;
+use crate::gap_findings::add_gap_findings;
 use crate::kinds::is_same_kind;
 use crate::numbered::NumberedItem;
 use crate::reporting::{defined_in, is_own, is_repeated};
 use crate::seen_names::SeenNames;
+use crate::text_findings::{add_text_findings, is_utf8};
 use crate::warnings::Warning;
 use bib_scan::{
     FieldView, ItemView, Kind, Part, Parts, is_key, only_part, read_value, same_folded,
@@ -32,18 +36,40 @@ use bib_store::{Database, Paged};
 use bib_value::MacroTable;
 use std::alloc::{AllocError, Global};
 
-/// Adds the findings in this item. It takes time in the item's length. `names` lends its memory for the names of the fields.
+/// Adds the findings on this item, in its body and in its trail. It takes time in the item's length. `names` lends its memory
+/// for the names of the fields.
 pub fn add_item_findings<'a>(
     alloc: Global,
     lines: &mut FindingLines<'_>,
     db: &Database<Paged>,
     it: NumberedItem<'_, 'a>,
+    empty_parents: bool,
     names: &mut SeenNames<'a>,
 ) -> Result<(), AllocError>
     requires item { IsItemNumber db.now it.n }
+    requires parents { OfReading db.now (λ r. empty_parents ≡ has_empty_parents (entries_of r)) }
     requires seen { OfReading db.now (λ r. Views r it.n it.view.now) }
     requires entries { OfReading db.now (λ r. it.entries ≡ entries_before r it.n) }
     ensures { OnOk result (OfReading db.now (λ r. lines.new ≡ with_findings (at_item lines.old (start_of r it.entry.n)) (findings_on r it.entry.n))) }
+{
+    add_body_findings(alloc, lines, db, it, empty_parents, names)?;
+    add_trail_findings(lines, it.view)
+}
+
+/// Adds the findings in the body of this item.
+fn add_body_findings<'a>(
+    alloc: Global,
+    lines: &mut FindingLines<'_>,
+    db: &Database<Paged>,
+    it: NumberedItem<'_, 'a>,
+    empty_parents: bool,
+    names: &mut SeenNames<'a>,
+) -> Result<(), AllocError>
+    requires item { IsItemNumber db.now it.n }
+    requires parents { OfReading db.now (λ r. empty_parents ≡ has_empty_parents (entries_of r)) }
+    requires seen { OfReading db.now (λ r. Views r it.n it.view.now) }
+    requires entries { OfReading db.now (λ r. it.entries ≡ entries_before r it.n) }
+    ensures { OnOk result (OfReading db.now (λ r. lines.new ≡ with_findings (at_item lines.old (start_of r it.entry.n)) (findings_in_body r it.entry.n))) }
 {
     db.opens();
     let item = it.view;
@@ -51,34 +77,102 @@ pub fn add_item_findings<'a>(
     lines.begin_item(db.item_place(it.n));
     let macros = db.macros_at(it.n);
     if !is_same_kind(item.kind(), Kind::Entry) {
-        let it = WithCrossref {
+        let it = WithFacts {
             view: item,
+            redefines: redefines(db, it.n, item),
             crossref: Crossref::none(),
         };
         return add_field_findings(alloc, lines, &macros, it, names);
     }
     let repeated = is_repeated(db, entries, item.key());
-    add_key_findings(lines, item.key_at(), repeated, item.key())?;
-    let it = WithCrossref {
+    add_key_findings(lines, item.key_at(), item.type_name(), repeated, item.key())?;
+    let it = WithFacts {
         view: item,
-        crossref: crossref_of(db, entries),
+        redefines: false,
+        crossref: crossref_of(db, entries, item.key(), empty_parents),
     };
     add_field_findings(alloc, lines, &macros, it, names)
 }
 
+// ---- definitions
+
+/// Whether item `n`, which is seen so, defines a macro that an earlier item defines.
+fn redefines(db: &Database<Paged>, n: usize, item: &ItemView<'_>) -> bool
+    ensures { OfReading db.now (λ r. (seen : Item) → IsTree name_limit seen.tree → item.now ≡ view_of seen → result ≡ redefines r.items n seen.tree) }
+{
+    if !is_same_kind(item.kind(), Kind::Macro) {
+        return false;
+    }
+    match item.fields().next() {
+        Some(field) => is_defined_before(db, n, field.name),
+        None => false,
+    }
+}
+
+/// Whether one of the items before item `n` defines the macro.
+fn is_defined_before(db: &Database<Paged>, n: usize, name: &[u8]) -> bool
+    ensures { OfReading db.now (λ r. result ≡ is_defined_before r.items n name.now) }
+{
+    match db.first_definition(name) {
+        Some(first) => first < n,
+        None => false,
+    }
+}
+
+// ---- trails
+
+/// Adds the findings in the trail of this item.
+fn add_trail_findings(lines: &mut FindingLines<'_>, item: &ItemView<'_>) -> Result<(), AllocError>
+    ensures { OnOk result ((seen : Item) → item.now ≡ view_of seen → lines.new ≡ with_findings lines.old (trail_findings seen)) }
+{
+    let is_comment = is_same_kind(item.kind(), Kind::Comment);
+    add_gap_findings(lines, is_comment, item.body().len(), item.trail())
+}
+
 // ---- keys
 
-/// Adds what is found in an entry's key: an earlier entry has it, and no edit could write it.
+/// Adds what is found in an entry's key and type: an earlier entry has the key, no edit could write it, and one of the two is not
+/// UTF-8.
 fn add_key_findings(
     lines: &mut FindingLines<'_>,
     at: usize,
+    type_name: &[u8],
     repeated: bool,
     key: &[u8],
 ) -> Result<(), AllocError>
-    ensures { OnOk result (lines.new ≡ with_findings lines.old (key_findings at repeated key.now)) }
+    ensures { OnOk result (lines.new ≡ with_findings lines.old (key_findings at type_name.now repeated key.now)) }
 {
     add_repeated(lines, at, repeated, key)?;
-    add_unusual(lines, at, key)
+    add_unusual(lines, at, key)?;
+    add_encoding(lines, at, type_name, key)
+}
+
+/// Adds that the type or the key is not UTF-8.
+fn add_encoding(
+    lines: &mut FindingLines<'_>,
+    at: usize,
+    type_name: &[u8],
+    key: &[u8],
+) -> Result<(), AllocError>
+    ensures { OnOk result (lines.new ≡ with_findings lines.old (encoding_findings at type_name.now key.now)) }
+{
+    add_not_utf8(lines, Warning::TypeNotUtf8, at, type_name)?;
+    add_not_utf8(lines, Warning::KeyNotUtf8, at, key)
+}
+
+/// Adds a finding of this kind if the bytes are not UTF-8.
+fn add_not_utf8(
+    lines: &mut FindingLines<'_>,
+    kind: Warning,
+    at: usize,
+    bytes: &[u8],
+) -> Result<(), AllocError>
+    ensures { OnOk result (lines.new ≡ with_findings lines.old (if is_utf8 bytes.now then [] else found kind at bytes.now)) }
+{
+    if is_utf8(bytes) {
+        return Ok(());
+    }
+    lines.add(kind, at, bytes)
 }
 
 fn add_repeated(
@@ -109,9 +203,12 @@ fn add_unusual(lines: &mut FindingLines<'_>, at: usize, key: &[u8]) -> Result<()
 
 // ---- crossrefs
 
-/// The crossref of entry `n`: its text, its target, and the parent of the target.
+/// The crossref of entry `n`: its text, its target, and the parent of the target; the entry's key, and whether BibTeX finds a
+/// parent for an empty crossref.
 #[derive(Clone, Copy)]
 pub struct Crossref<'a> {
+    empty_parents: bool,
+    key: &'a [u8],
     n: usize,
     text: Option<&'a [u8]>,
     target: Option<usize>,
@@ -126,6 +223,8 @@ impl<'a> Crossref<'a> {
         ensures { result.text ≡ None }
     {
         Crossref {
+            empty_parents: false,
+            key: b"",
             n: 0,
             text: None,
             target: None,
@@ -134,12 +233,21 @@ impl<'a> Crossref<'a> {
     }
 }
 
-/// The crossref of an entry.
-fn crossref_of(db: &Database<Paged>, n: usize) -> Crossref<'_>
-    requires { IsEntryNumber db.now n }
-    ensures { OfReading db.now (λ r. (at : ℕ) → crossref_findings result.n (option_copied result.text) result.target result.grandparent at ≡ crossrefs_of (entries_of r) n at) }
+/// The crossref of entry `n`, which has this key.
+fn crossref_of<'a>(
+    db: &'a Database<Paged>,
+    n: usize,
+    key: &'a [u8],
+    empty_parents: bool,
+) -> Crossref<'a>
+    requires number { IsEntryNumber db.now n }
+    requires key { OfReading db.now (λ r. IsKeyOf r n key.now) }
+    requires parents { OfReading db.now (λ r. empty_parents ≡ has_empty_parents (entries_of r)) }
+    ensures { OfReading db.now (λ r. (at : ℕ) → crossref_findings result.empty_parents result.key.now result.n (option_copied result.text) result.target result.grandparent at ≡ crossrefs_of (entries_of r) n at) }
 {
     Crossref {
+        empty_parents,
+        key,
         n,
         text: db.crossref_text(n),
         target: db.target(n),
@@ -166,13 +274,27 @@ fn add_crossref(
     at: usize,
     crossref: Crossref<'_>,
 ) -> Result<(), AllocError>
-    ensures { OnOk result (lines.new ≡ with_findings lines.old (crossref_findings crossref.entry.n (option_copied crossref.entry.text) crossref.entry.target crossref.entry.grandparent at)) }
+    ensures { OnOk result (lines.new ≡ with_findings lines.old (crossref_findings crossref.entry.empty_parents crossref.entry.key.now crossref.entry.n (option_copied crossref.entry.text) crossref.entry.target crossref.entry.grandparent at)) }
 {
     match crossref.text {
         None => Ok(()),
-        Some([]) => Ok(()),
+        Some([]) => add_empty(lines, at, crossref),
         Some(text) => add_target(lines, at, crossref, text),
     }
+}
+
+/// Adds that the crossref is empty and that an entry has no key, if that is so.
+fn add_empty(
+    lines: &mut FindingLines<'_>,
+    at: usize,
+    crossref: Crossref<'_>,
+) -> Result<(), AllocError>
+    ensures { OnOk result (lines.new ≡ with_findings lines.old (empty_findings crossref.entry.empty_parents crossref.entry.key.now at)) }
+{
+    if crossref.empty_parents {
+        return lines.add(Warning::EmptyCrossref, at, crossref.key);
+    }
+    Ok(())
 }
 
 fn add_target(
@@ -224,34 +346,34 @@ fn add_nested(
 
 // ---- fields
 
-/// What is seen of an item, and its crossref if it is an entry.
+/// What is seen of an item, whether it defines a macro again, and its crossref if it is an entry.
 #[derive(Clone, Copy)]
-pub struct WithCrossref<'v, 'a, 'c> {
+pub struct WithFacts<'v, 'a, 'c> {
     view: &'v ItemView<'a>,
+    redefines: bool,
     crossref: Crossref<'c>,
 }
 
-/// Adds what is found in an item's fields: for each field, that an earlier one has its name, what is wrong with the crossref,
-/// and the macros that are used wrongly.
+/// Adds what is found in an item's fields: for each field, that an earlier one has its name, or else what is found in the first
+/// field of its name; and the macros that are used wrongly.
 fn add_field_findings<'a, M: MacroTable>(
     alloc: Global,
     lines: &mut FindingLines<'_>,
     macros: &M,
-    it: WithCrossref<'_, 'a, '_>,
+    it: WithFacts<'_, 'a, '_>,
     earlier: &mut SeenNames<'a>,
 ) -> Result<(), AllocError>
     requires { AreSound it.view.now.fields }
     ensures { OnOk result ((values : List Assigned) → AreFieldsOf values it.entry.view.now.fields
         → lines.new ≡ with_findings lines.old (field_findings (defined_in it.entry.view.now.kind) (M.macros macros.now)
-        (crossref_findings it.entry.crossref.n (option_copied it.entry.crossref.text) it.entry.crossref.target it.entry.crossref.grandparent) [] it.entry.view.now.fields values)) }
+        (first_findings it.entry.view.now.kind (M.macros macros.now) it.entry.redefines (crossref_findings it.entry.crossref.empty_parents it.entry.crossref.key.now it.entry.crossref.n (option_copied it.entry.crossref.text) it.entry.crossref.target it.entry.crossref.grandparent)) [] it.entry.view.now.fields values)) }
 {
     let item = it.view;
-    let crossref = it.crossref;
     earlier.clear();
     let mut fields = item.fields();
     'fields: while let Some(field) = fields.next() {
         earlier.fill_filter(item)?;
-        add_name(lines, earlier, field, crossref)?;
+        add_name(alloc, lines, macros, earlier, field, it)?;
         let value = PlacedValue {
             at: field.value_at,
             own: defined_in(item.kind(), field.name),
@@ -263,21 +385,70 @@ fn add_field_findings<'a, M: MacroTable>(
     Ok(())
 }
 
-/// Adds that an earlier field has this name; or else, if the field is the crossref, what is wrong with it.
-fn add_name(
+/// Adds that an earlier field has this name; or else what is found in the first field of this name.
+fn add_name<M: MacroTable>(
+    alloc: Global,
     lines: &mut FindingLines<'_>,
+    macros: &M,
     earlier: &SeenNames<'_>,
     field: FieldView<'_>,
-    crossref: Crossref<'_>,
+    it: WithFacts<'_, '_, '_>,
 ) -> Result<(), AllocError>
+    requires { IsValueWithin name_limit field.value.now }
     ensures { OnOk result ((names rest : List Text) → HaveSeen earlier.now names → AreTold earlier.now.filter names (field.entry.name.now ∷ rest)
-        → lines.new ≡ with_findings lines.old (name_findings (crossref_findings crossref.entry.n (option_copied crossref.entry.text) crossref.entry.target crossref.entry.grandparent) names (field_seen field.entry))) }
+        → OfValue field.entry.value.now (λ v. lines.new ≡ with_findings lines.old (name_findings (first_findings it.entry.view.now.kind (M.macros macros.now) it.entry.redefines (crossref_findings it.entry.crossref.empty_parents it.entry.crossref.key.now it.entry.crossref.n (option_copied it.entry.crossref.text) it.entry.crossref.target it.entry.crossref.grandparent)) names (field_seen field.entry) v))) }
 {
     if earlier.has(field.name) {
         return lines.add(Warning::RepeatedField, field.name_at, field.name);
     }
+    add_first(alloc, lines, macros, field, it)
+}
+
+/// Adds what is found in the first field of a name.
+fn add_first<M: MacroTable>(
+    alloc: Global,
+    lines: &mut FindingLines<'_>,
+    macros: &M,
+    field: FieldView<'_>,
+    it: WithFacts<'_, '_, '_>,
+) -> Result<(), AllocError>
+    requires { IsValueWithin name_limit field.value.now }
+    ensures { OnOk result (OfValue field.entry.value.now (λ v. lines.new ≡ with_findings lines.old (first_findings it.entry.view.now.kind (M.macros macros.now) it.entry.redefines (crossref_findings it.entry.crossref.empty_parents it.entry.crossref.key.now it.entry.crossref.n (option_copied it.entry.crossref.text) it.entry.crossref.target it.entry.crossref.grandparent) (field_seen field.entry) v))) }
+{
+    match it.view.kind() {
+        Kind::Entry => add_entry_field(alloc, lines, macros, field, it.crossref),
+        Kind::Macro => add_definition(lines, field, it.redefines),
+        Kind::Preamble | Kind::Comment => Ok(()),
+    }
+}
+
+/// Adds what is found in the first field of a name of an entry that has this crossref.
+fn add_entry_field<M: MacroTable>(
+    alloc: Global,
+    lines: &mut FindingLines<'_>,
+    macros: &M,
+    field: FieldView<'_>,
+    crossref: Crossref<'_>,
+) -> Result<(), AllocError>
+    requires { IsValueWithin name_limit field.value.now }
+    ensures { OnOk result (OfValue field.entry.value.now (λ v. lines.new ≡ with_findings lines.old (entry_field_findings (M.macros macros.now) (crossref_findings crossref.entry.empty_parents crossref.entry.key.now crossref.entry.n (option_copied crossref.entry.text) crossref.entry.target crossref.entry.grandparent) (field_seen field.entry) v))) }
+{
     if same_folded(field.name, b"crossref") {
         return add_crossref(lines, field.value_at, crossref);
+    }
+    add_text_findings(alloc, lines, macros, field)
+}
+
+/// Adds that the field of a definition defines a macro again, if it does.
+fn add_definition(
+    lines: &mut FindingLines<'_>,
+    field: FieldView<'_>,
+    redefines: bool,
+) -> Result<(), AllocError>
+    ensures { OnOk result (lines.new ≡ with_findings lines.old (definition_findings redefines (field_seen field.entry))) }
+{
+    if redefines {
+        return lines.add(Warning::RepeatedMacro, field.name_at, field.name);
     }
     Ok(())
 }

@@ -4,10 +4,10 @@ ghost use Rattle.std.specs.Prelude.{◌≡◌, ◌≢◌, ◌++◌, [], true, fa
 ghost use Rattle.std.specs.Option.{option_copied};
 ghost use Rattle.bib_spec.specs.Records.{entries_of, IsDepth};
 ghost use Rattle.bib_store.specs.Readings.{OfReading, IsEntryNumber};
-ghost use Rattle.entry_json.specs.EntryJson.{Told, json_line, is_told_utf8};
+ghost use Rattle.entry_json.specs.EntryJson.{Told, json_line_in, is_told_utf8_in};
 ghost use Rattle.entry_json.specs.declared.fault.JsonFault.TheVariants.{Memory};
 ghost use Rattle.bib_answers.specs.Entries.{key_at};
-ghost use Rattle.bib_answers.specs.Json.{told_at, told_of, not_utf8_line, told_answer, json_answer};
+ghost use Rattle.bib_answers.specs.Json.{ToldIn, told_in, told_line, is_told_in_utf8, told_of, file_of, not_utf8_line, told_answer, json_answer, json_answer_in};
 ghost use Rattle.bib_answers.specs.Marks.{AreEntryNumbers};
 ghost use Rattle.bib_answers.specs.Opened.{AnswersFile};
 ghost use Rattle.bib_answers.specs.Outcome.{answer_of};
@@ -15,10 +15,11 @@ ghost use Rattle.bib_answers.specs.Outcome.{answer_of};
 use crate::answers::{Answer, done, no_such_entry, refused};
 use crate::citing::all_cited;
 use crate::lines::add_all;
+use crate::named_files::NamedFiles;
 use crate::opening::answer_file;
 use bib_scan::Text;
 use bib_store::{Database, Paged};
-use entry_json::{JsonFault, add_line};
+use entry_json::{JsonFault, add_line_in};
 use std::alloc::{AllocError, Global};
 
 /// The entries that the keys cite, with their records at this depth; or that a key finds none, or that a text is not UTF-8.
@@ -31,15 +32,23 @@ pub fn answer_json(
     requires { IsDepth depth }
     ensures { IfOk result (AnswersFile (json_answer depth keys.now) file.items) }
 {
-    answer_file(alloc, file, |db| json(alloc, db, keys, depth))
+    answer_file(alloc, file, |db| json_in(alloc, db, None, keys, depth))
 }
 
-fn json(alloc: Global, db: &Database<Paged>, keys: &[Text], depth: u8) -> Result<Answer, AllocError>
+/// What `answer_json` answers, for a file that is open; or for files that are open as one, each entry with the name of its file. It
+/// takes time and memory for the records of the entries that the keys cite.
+pub fn json_in(
+    alloc: Global,
+    db: &Database<Paged>,
+    files: Option<&NamedFiles<'_>>,
+    keys: &[Text],
+    depth: u8,
+) -> Result<Answer, AllocError>
     requires { IsDepth depth }
-    ensures { IfOk result (λ answer. OfReading db.now (λ r. answer ≡ json_answer depth keys.now r)) }
+    ensures { IfOk result (λ answer. OfReading db.now (λ r. answer ≡ json_answer_in (option_copied files.entry) depth keys.now r)) }
 {
     match all_cited(db, keys)? {
-        Some(list) => lines_of(alloc, db, list.as_slice(), depth),
+        Some(list) => lines_of(alloc, db, files, list.as_slice(), depth),
         None => no_such_entry(alloc),
     }
 }
@@ -48,16 +57,17 @@ fn json(alloc: Global, db: &Database<Paged>, keys: &[Text], depth: u8) -> Result
 fn lines_of(
     alloc: Global,
     db: &Database<Paged>,
+    files: Option<&NamedFiles<'_>>,
     list: &[usize],
     depth: u8,
 ) -> Result<Answer, AllocError>
     requires numbers { AreEntryNumbers db.now list.now }
     requires depth { IsDepth depth }
-    ensures { IfOk result (λ answer. OfReading db.now (λ r. answer ≡ told_answer (told_of depth (entries_of r) list.now))) }
+    ensures { IfOk result (λ answer. OfReading db.now (λ r. answer ≡ told_answer (told_of depth (entries_of r) (file_of (option_copied files.entry) r) list.now))) }
 {
     let mut lines = Vec::new(alloc);
     'entries: for n in list {
-        lines = match with_entry(lines, db, *n, depth) {
+        lines = match with_entry(lines, db, files, *n, depth) {
             Ok(more) => more,
             Err(JsonFault::NotUtf8) => return not_utf8(alloc, db.entry(*n).key()),
             Err(JsonFault::Memory) => return Err(AllocError),
@@ -79,18 +89,29 @@ fn not_utf8(alloc: Global, key: &[u8]) -> Result<Answer, AllocError>
 fn with_entry(
     lines: Vec<u8>,
     db: &Database<Paged>,
+    files: Option<&NamedFiles<'_>>,
     n: usize,
     depth: u8,
 ) -> Result<Vec<u8>, JsonFault>
     requires number { IsEntryNumber db.now n }
     requires depth { IsDepth depth }
-    ensures line { IfOk result (λ more. OfReading db.now (λ r. (told : Told) → told_at depth (entries_of r) n ≡ Some told → (is_told_utf8 told ≡ true) × (more.items ≡ lines.items ++ json_line told))) }
-    ensures fault { IfErr result (λ fault. fault ≢ Memory → OfReading db.now (λ r. (told : Told) → told_at depth (entries_of r) n ≡ Some told → is_told_utf8 told ≡ false)) }
+    ensures line { IfOk result (λ more. OfReading db.now (λ r. (one : ToldIn) → told_in depth (entries_of r) (file_of (option_copied files.entry) r) n ≡ Some one → (is_told_in_utf8 one ≡ true) × (more.items ≡ lines.items ++ told_line one))) }
+    ensures fault { IfErr result (λ fault. fault ≢ Memory → OfReading db.now (λ r. (one : ToldIn) → told_in depth (entries_of r) (file_of (option_copied files.entry) r) n ≡ Some one → is_told_in_utf8 one ≡ false)) }
 {
     let Ok(expanded) = db.expanded(n, depth) else {
         return Err(JsonFault::Memory);
     };
-    add_line(lines, &expanded.rec, key_of(db, expanded.parent))
+    let parent = key_of(db, expanded.parent);
+    add_line_in(lines, &expanded.rec, parent, file_of(files, db, n))
+}
+
+/// The name of the file in which entry `n` stands, if these files were read as one.
+fn file_of<'a>(files: Option<&NamedFiles<'a>>, db: &Database<Paged>, n: usize) -> Option<&'a [u8]>
+    requires { IsEntryNumber db.now n }
+    ensures { OfReading db.now (λ r. option_copied result ≡ file_of (option_copied files.entry) r n) }
+{
+    let files = files?;
+    Some(files.name_at(db.item_place(db.entry_item(n))))
 }
 
 /// The key of an entry, if there is one.

@@ -29,10 +29,11 @@ pub fn answer_labels(
     requires { IsDepth depth }
     ensures { IfOk result (AnswersFile (labels_answer depth keys.now) file.items) }
 {
-    answer_file(alloc, file, |db| label(alloc, db, keys, depth))
+    answer_file(alloc, file, |db| labels_in(alloc, db, keys, depth))
 }
 
-fn label(
+/// What `answer_labels` answers, for a file that is open. It takes time and memory for the records of the entries that the keys cite.
+pub fn labels_in(
     alloc: Global,
     db: &Database<Paged>,
     keys: &[Text],

@@ -1,9 +1,9 @@
 //! `lint`: what is wrong with a file, a line each, as compilers write it.
 
-ghost use Rattle.std.specs.Prelude.{◌≡◌, ◌+◌, ◌<◌, ◌^◌, ℕ, List, [], nat_lt, IfOk, OnOk};
+ghost use Rattle.std.specs.Prelude.{◌≡◌, ◌+◌, ◌<◌, ◌^◌, ℕ, List, [], ◌∷◌, nat_lt, IfOk, OnOk};
 ghost use Rattle.std.specs.List.{flat_map};
 ghost use Rattle.bib_faults.specs.GoingOn.{Fault, Faults};
-ghost use Rattle.bib_answers.specs.Lint.{lint_lines, lint_status, lint_answer, error_line, fault_lines, IsLintAnswer};
+ghost use Rattle.bib_answers.specs.Lint.{lint_lines, lint_status, lint_answer, files_answer, error_line, fault_lines, IsFaultAnswer, IsLintAnswer};
 ghost use Rattle.bib_answers.specs.LintedThrough.{IsLintedBefore};
 ghost use Rattle.bib_answers.specs.Outcome.{answer_of};
 ghost use Rattle.bib_answers.specs.Positions.{position_of};
@@ -11,13 +11,16 @@ ghost use Rattle.bib_store.specs.Readings.{OfReading, IsItemNumber, IsOpenFault}
 
 use crate::answers::{Answer, outcome_of};
 use crate::check::counted;
+use crate::empty_parents::has_empty_parents;
 use crate::finding_lines::FindingLines;
 use crate::findings::add_item_findings;
+use crate::gap_findings::add_gap_findings;
 use crate::kinds::is_same_kind;
+use crate::named_files::NamedFiles;
 use crate::numbered::NumberedItem;
 use crate::seen_names::SeenNames;
 use bib_faults::read_all;
-use bib_scan::{Kind, ReadFault, Text};
+use bib_scan::{Kind, ReadFault, Text, copied};
 use bib_store::{Database, Paged};
 use bib_words::status;
 use std::alloc::{AllocError, Global};
@@ -36,7 +39,7 @@ pub fn answer_lint(
     ensures { IfOk result (IsLintAnswer ignored.now name.now file.now) }
 {
     match Database::open_bytes(alloc, file, Paged::new(alloc)) {
-        Ok(db) => lint(alloc, ignored, name, file, &db),
+        Ok(db) => lint_alone(alloc, &db, name, file, ignored),
         Err(fault) => unread(alloc, name, file, fault),
     }
 }
@@ -57,6 +60,20 @@ fn unread(alloc: Global, name: &[u8], file: &[u8], fault: ReadFault) -> Result<A
     if fault.is_memory() {
         return Err(AllocError);
     }
+    lint_fault(alloc, name, file, fault)
+}
+
+/// What `lint` answers if the file with this name and these bytes is not opened for this fault: a line for each fault of reading,
+/// or a line for this one if it is of a file that is valid or too long. It takes time in the file's length, and memory for the
+/// lines.
+pub fn lint_fault(
+    alloc: Global,
+    name: &[u8],
+    file: &[u8],
+    fault: ReadFault,
+) -> Result<Answer, AllocError>
+    ensures { IfOk result (IsFaultAnswer name.now file.now fault.kind fault.place) }
+{
     if is_past_reading(fault) {
         return answer_faults(alloc, name, file, &[fault]);
     }
@@ -82,7 +99,10 @@ fn answer_faults(
 ) -> Result<Answer, AllocError>
     ensures { IfOk result (λ answer. answer ≡ answer_of (flat_map (λ fault. error_line name.now (position_of file.now fault.place) fault.kind) faults.now) [] 1) }
 {
-    let mut lines = FindingLines::new(alloc, &[], name, file);
+    let names = alone(alloc, name)?;
+    let spans = [(0, file.len())];
+    let files = NamedFiles::new(names.as_slice(), file, &spans);
+    let mut lines = FindingLines::new(alloc, &[], &files);
     lines.add_faults(faults)?;
     Ok(told(alloc, lines.into_text(), status::REFUSED))
 }
@@ -108,41 +128,70 @@ fn status_of(lines: &[u8]) -> u8
     }
 }
 
-fn lint(
+/// What is wrong with an open file that has this name and these bytes.
+fn lint_alone(
     alloc: Global,
-    ignored: &[Text],
+    db: &Database<Paged>,
     name: &[u8],
     file: &[u8],
-    db: &Database<Paged>,
+    ignored: &[Text],
 ) -> Result<Answer, AllocError>
     ensures { IfOk result (λ answer. OfReading db.now (λ r. answer ≡ lint_answer ignored.now name.now file.now r)) }
 {
-    let lines = lines_of(alloc, ignored, name, file, db)?;
+    let names = alone(alloc, name)?;
+    let spans = [(0, file.len())];
+    let files = NamedFiles::new(names.as_slice(), file, &spans);
+    lint_in(alloc, db, &files, ignored)
+}
+
+/// The name, alone in a list.
+fn alone(alloc: Global, name: &[u8]) -> Result<Vec<Text>, AllocError>
+    ensures { IfOk result (λ names. names.items ≡ name.now ∷ []) }
+{
+    let mut names = Vec::new(alloc);
+    names.push(copied(alloc, name)?)?;
+    Ok(names)
+}
+
+/// What is wrong with files that are open as one. Findings with one of the ignored codes are left out. It takes time in the length
+/// of the files, and memory for the lines.
+pub fn lint_in(
+    alloc: Global,
+    db: &Database<Paged>,
+    files: &NamedFiles<'_>,
+    ignored: &[Text],
+) -> Result<Answer, AllocError>
+    ensures { IfOk result (λ answer. OfReading db.now (λ r. answer ≡ files_answer ignored.now files.now.names files.now.files r)) }
+{
+    let lines = lines_of(alloc, db, files, ignored)?;
     let status = status_of(lines.as_slice());
     Ok(told(alloc, lines, status))
 }
 
-/// What is found in one pass over the items: the lines, and how many of the items are entries.
+/// What is found in one pass over the items: the lines, and how many of the items are entries; and whether BibTeX finds parents
+/// for empty crossrefs, which is known before the pass.
 #[derive(Drop)]
 struct Found<'a> {
     lines: FindingLines<'a>,
     entries: usize,
+    empty_parents: bool,
 }
 
-/// The lines of all items.
+/// The lines of the front and of all items.
 fn lines_of(
     alloc: Global,
-    ignored: &[Text],
-    name: &[u8],
-    file: &[u8],
     db: &Database<Paged>,
+    files: &NamedFiles<'_>,
+    ignored: &[Text],
 ) -> Result<Vec<u8>, AllocError>
-    ensures { IfOk result (λ lines. OfReading db.now (λ r. lines.items ≡ lint_lines ignored.now name.now file.now r)) }
+    ensures { IfOk result (λ lines. OfReading db.now (λ r. lines.items ≡ lint_lines ignored.now files.now.names files.now.files r)) }
 {
     let mut found = Found {
-        lines: FindingLines::new(alloc, ignored, name, file),
+        lines: FindingLines::new(alloc, ignored, files),
         entries: 0,
+        empty_parents: has_empty_parents(db),
     };
+    add_gap_findings(&mut found.lines, false, 0, db.front())?;
     let mut names = SeenNames::new(alloc);
     'items: for n in 0..db.item_count() {
         look_at(alloc, &mut found, db, n, &mut names)?;
@@ -160,8 +209,8 @@ fn look_at<'a>(
 ) -> Result<(), AllocError>
     requires item { IsItemNumber db.now n }
     requires small { n + 1 < 2 ^ 64 }
-    requires before { IsLintedBefore db.now found.old.lines.ignored found.old.lines.name found.old.lines.file n found.old }
-    ensures { OnOk result (IsLintedBefore db.now found.old.lines.ignored found.old.lines.name found.old.lines.file (n + 1) found.new) }
+    requires before { IsLintedBefore db.now found.old.lines.ignored found.old.lines.names found.old.lines.files n found.old }
+    ensures { OnOk result (IsLintedBefore db.now found.old.lines.ignored found.old.lines.names found.old.lines.files (n + 1) found.new) }
 {
     db.opens();
     let item = db.item(n);
@@ -171,7 +220,7 @@ fn look_at<'a>(
         view: &item,
         entries,
     };
-    add_item_findings(alloc, &mut found.lines, db, it, names)?;
+    add_item_findings(alloc, &mut found.lines, db, it, found.empty_parents, names)?;
     found.entries = counted(entries, is_same_kind(item.kind(), Kind::Entry));
     Ok(())
 }

@@ -7,7 +7,7 @@ ghost use Rattle.bib_store.specs.Readings.{OfReading, IsEntryNumber};
 ghost use Rattle.bib_names.specs.declared.fault.NameFault.TheVariants.{Memory};
 ghost use Rattle.bib_answers.specs.Messages.{no_such_entry_line};
 ghost use Rattle.bib_answers.specs.Outcome.{answer_of};
-ghost use Rattle.bib_answers.specs.Names.{name_fault_name, name_fault_line, listed_in, persons, parts_in, line_of, name_line, name_lines, lines_of, lines_answer, record_answer, names_answer, Spells, IsNamesAnswer};
+ghost use Rattle.bib_answers.specs.Names.{name_fault_name, name_fault_line, listed_in, persons, parts_in, line_of, name_line, name_lines, lines_of, lines_answer, record_answer, names_answer, Spells, IsNamesAnswer, AnswersNames};
 
 use crate::answers::{Answer, done, no_such_entry, refused};
 use crate::opening::answer_file;
@@ -30,6 +30,21 @@ pub fn answer_names(
 {
     let template = spelled(alloc, template)?;
     answer_file(alloc, file, |db| names(alloc, db, key, depth, &template))
+}
+
+/// What `answer_names` answers, for a file that is open. It takes a look-up, and time and memory for the record and the template.
+pub fn names_in(
+    alloc: Global,
+    db: &Database<Paged>,
+    key: &[u8],
+    depth: u8,
+    template: &[u8],
+) -> Result<Answer, AllocError>
+    requires { IsDepth depth }
+    ensures { IfOk result (λ answer. OfReading db.now (λ r. AnswersNames depth key.now template.now r answer)) }
+{
+    let template = spelled(alloc, template)?;
+    names(alloc, db, key, depth, &template)
 }
 
 /// The template that the bytes spell, if they spell one.

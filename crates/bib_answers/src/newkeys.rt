@@ -19,10 +19,11 @@ pub fn answer_newkeys(alloc: Global, file: Vec<u8>, depth: u8) -> Result<Answer,
     requires { IsDepth depth }
     ensures { IfOk result (AnswersFile (newkeys_answer depth) file.items) }
 {
-    answer_file(alloc, file, |db| newkeys(alloc, db, depth))
+    answer_file(alloc, file, |db| newkeys_in(alloc, db, depth))
 }
 
-fn newkeys(alloc: Global, db: &Database<Paged>, depth: u8) -> Result<Answer, AllocError>
+/// What `answer_newkeys` answers, for a file that is open. It takes time and memory for the records of all entries.
+pub fn newkeys_in(alloc: Global, db: &Database<Paged>, depth: u8) -> Result<Answer, AllocError>
     requires { IsDepth depth }
     ensures { IfOk result (λ answer. OfReading db.now (λ r. answer ≡ newkeys_answer depth r)) }
 {

@@ -24,10 +24,16 @@ pub fn answer_show(
     requires { IsDepth depth }
     ensures { IfOk result (AnswersFile (show_answer depth key.now) file.items) }
 {
-    answer_file(alloc, file, |db| show(alloc, db, key, depth))
+    answer_file(alloc, file, |db| show_in(alloc, db, key, depth))
 }
 
-fn show(alloc: Global, db: &Database<Paged>, key: &[u8], depth: u8) -> Result<Answer, AllocError>
+/// What `answer_show` answers, for a file that is open. It takes a look-up, and time and memory for the record.
+pub fn show_in(
+    alloc: Global,
+    db: &Database<Paged>,
+    key: &[u8],
+    depth: u8,
+) -> Result<Answer, AllocError>
     requires { IsDepth depth }
     ensures { IfOk result (λ answer. OfReading db.now (λ r. answer ≡ show_answer depth key.now r)) }
 {

@@ -16,6 +16,15 @@ pub enum Warning {
     OwnParent,
     EarlyParent,
     NestedParent,
+    ConflictMarker,
+    LostEntry,
+    LoneBrace,
+    RepeatedMacro,
+    ManyCommas,
+    EmptyCrossref,
+    FieldNotUtf8,
+    KeyNotUtf8,
+    TypeNotUtf8,
 }
 
 impl Warning {
@@ -34,6 +43,13 @@ impl Warning {
             Warning::OwnParent => "own-parent",
             Warning::EarlyParent => "early-parent",
             Warning::NestedParent => "nested-parent",
+            Warning::ConflictMarker => "conflict-marker",
+            Warning::LostEntry => "lost-entry",
+            Warning::LoneBrace => "lone-brace",
+            Warning::RepeatedMacro => "repeated-macro",
+            Warning::ManyCommas => "refused-name",
+            Warning::EmptyCrossref => "empty-crossref",
+            Warning::FieldNotUtf8 | Warning::KeyNotUtf8 | Warning::TypeNotUtf8 => "not-utf8",
         }
     }
 
@@ -42,12 +58,18 @@ impl Warning {
         ensures { result.now ≡ words_before self }
     {
         match self {
-            Warning::UndefinedMacro | Warning::OwnMacro => "macro ",
-            Warning::RepeatedField => "field ",
-            Warning::RepeatedKey | Warning::OddKey => "key ",
+            Warning::UndefinedMacro | Warning::OwnMacro | Warning::RepeatedMacro => "macro ",
+            Warning::RepeatedField | Warning::FieldNotUtf8 => "field ",
+            Warning::RepeatedKey | Warning::OddKey | Warning::KeyNotUtf8 => "key ",
+            Warning::TypeNotUtf8 => "type ",
             Warning::NoKey => "the entry",
             Warning::MissingParent | Warning::OwnParent => "crossref ",
             Warning::EarlyParent | Warning::NestedParent => "parent ",
+            Warning::ConflictMarker => "conflict marker ",
+            Warning::LostEntry => "text ",
+            Warning::LoneBrace => "brace ",
+            Warning::ManyCommas => "name ",
+            Warning::EmptyCrossref => "the crossref of ",
         }
     }
 
@@ -68,6 +90,15 @@ impl Warning {
                 " stands before its child: BibTeX finds this parent only if it is cited itself or named by an earlier child"
             }
             Warning::NestedParent => " has a parent itself, whose fields are not inherited",
+            Warning::ConflictMarker => " was left by a merge",
+            Warning::LostEntry => "{ has no at-sign before it and begins no entry",
+            Warning::LoneBrace => " closes no item",
+            Warning::RepeatedMacro => " is defined already: the uses after this have the new text",
+            Warning::ManyCommas => " has too many commas: 21 TooManyCommas",
+            Warning::EmptyCrossref => " is empty and an entry has no key",
+            Warning::FieldNotUtf8 | Warning::KeyNotUtf8 | Warning::TypeNotUtf8 => {
+                " is not UTF-8: 24 NotUtf8"
+            }
         }
     }
 }

@@ -86,6 +86,8 @@ fn command_of(alloc: Global, name: &str, matches: &ArgMatches<'_>) -> Result<Com
         name: copied(alloc, name.as_bytes())?,
         words: words_in(alloc, matches)?,
         aux: aux_in(alloc, matches)?,
+        before: Seq::empty(alloc),
+        after: Seq::empty(alloc),
         n: number_of(matches),
         depth: depth_of(matches),
         print: is_given(matches, "print"),

@@ -1,10 +1,10 @@
 //! What each command answers to the bytes of its sources.
 
-ghost use Rattle.std.specs.Prelude.{◌≡◌, ◌≤◌, ◌<◌, [], IfOk, option_map, slice_index_or, length};
+ghost use Rattle.std.specs.Prelude.{◌≡◌, ◌≤◌, IfOk, option_map, length};
 ghost use Rattle.bib_words.specs.Command.{HasItsWords, IsCommand};
 ghost use Rattle.bib_words.specs.Verbs.{question_shape, shape};
 ghost use Rattle.bib_answers.specs.Opened.{AnswersFile};
-ghost use Rattle.bib_run.specs.Answers.{Answers, IsAnswer, IsEditsAnswer, IsWholeAnswer, IsStoredAnswer, question_answer, key_words};
+ghost use Rattle.bib_run.specs.Answers.{Answers, IsAnswer, IsEditsAnswer, IsWholeAnswer, IsStoredAnswer, question_answer};
 ghost use Rattle.bib_run.specs.Shown.{printed, shown, without_journal, kept_with};
 
 use crate::commands::edit::{answer_edit, answer_words, whole};
@@ -159,14 +159,14 @@ fn answer_verb(
         Verb::Asks(question) => answer_question(alloc, question, command, file),
         Verb::Cat => answer_cat(alloc, file),
         Verb::Lint => {
-            let ignored = words_after_file(command);
-            answer_lint(alloc, word(command, 0), file.as_slice(), ignored)
+            let ignored = command.words_after_file();
+            answer_lint(alloc, command.word(0), file.as_slice(), ignored)
         }
         Verb::Names => {
-            let (key, template) = (word(command, 1), word(command, 2));
+            let (key, template) = (command.word(1), command.word(2));
             answer_names(alloc, file, key, command.depth, template)
         }
-        Verb::Explain => answer_explain(alloc, word(command, 0)),
+        Verb::Explain => answer_explain(alloc, command.word(0)),
         Verb::Edit => answer_whole(alloc, command, file, journal, input),
         Verb::Import => answer_import(alloc, file, journal, new_journal, input),
         Verb::Undo => answer_undo(alloc, file, journal, command.n as usize),
@@ -189,37 +189,21 @@ fn answer_question(
     let (depth, n) = (command.depth, command.n);
     match question {
         Question::Check => answer_check(alloc, file),
-        Question::Show => answer_show(alloc, file, word(command, 1), depth),
-        Question::Entry => answer_entry(alloc, file, words_after_file(command), command.at),
+        Question::Show => answer_show(alloc, file, command.word(1), depth),
+        Question::Entry => answer_entry(alloc, file, command.words_after_file(), command.at),
         Question::Cite => {
-            let keys = words_after_file(command);
+            let keys = command.words_after_file();
             answer_cite(alloc, file, keys, n, command.strict)
         }
-        Question::Labels => answer_labels(alloc, file, words_after_file(command), depth),
-        Question::Json => answer_json(alloc, file, words_after_file(command), depth),
+        Question::Labels => answer_labels(alloc, file, command.words_after_file(), depth),
+        Question::Json => answer_json(alloc, file, command.words_after_file(), depth),
         Question::NewKeys => answer_newkeys(alloc, file, depth),
         Question::Ris => {
-            let keys = words_after_file(command);
+            let keys = command.words_after_file();
             answer_ris(alloc, file, keys, depth, command.dropped)
         }
-        Question::Extract => answer_extract(alloc, file, words_after_file(command)),
+        Question::Extract => answer_extract(alloc, file, command.words_after_file()),
     }
-}
-
-/// The command's word with this index.
-fn word(command: &Command, i: usize) -> &[u8]
-    requires { i < length command.now.words }
-    ensures { result.now ≡ slice_index_or command.now.words i [] }
-{
-    command.words.as_slice()[i].as_slice()
-}
-
-/// The words after the file.
-fn words_after_file(command: &Command) -> &[Text]
-    requires { 1 ≤ length command.now.words }
-    ensures { result.now ≡ key_words command.now }
-{
-    &command.words.as_slice()[1..]
 }
 
 /// What `edit` answers, with `--all-or-nothing` or without.
@@ -256,6 +240,6 @@ fn answer_edits(
         file,
         journal,
         command.new_journal,
-        words_after_file(command),
+        command.words_after_file(),
     )
 }

@@ -1,3 +1,6 @@
 pub mod Joins
 pub mod Locates
 pub mod Opens
+pub mod Files
+pub mod Searches
+pub mod Counts

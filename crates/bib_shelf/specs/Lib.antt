@@ -1,3 +1,4 @@
 pub mod Laws
 pub mod Joined
 pub mod Faults
+pub mod Items

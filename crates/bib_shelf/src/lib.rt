@@ -2,6 +2,7 @@
 //! the database is asked. It promises the database of the shelf's text; or which of the files is at fault, and where.
 #![tactic(auto)]
 
+mod counting;
 mod fault;
 mod joining;
 mod laws;
@@ -11,4 +12,5 @@ mod opening;
 pub use fault::ShelfFault;
 pub use joining::{Joined, seam};
 pub use laws::a_shelf_has_one_reading;
+pub use locating::{file_in, locate};
 pub use opening::Shelf;

@@ -1,6 +1,6 @@
 //! Several files that are open as one database.
 
-ghost use Rattle.std.specs.Prelude.{◌≡◌, ◌<◌, ◌≤◌, ◌+◌, ◌-◌, List, length, take, drop, Some, slice_get, IfErr, OnOk};
+ghost use Rattle.std.specs.Prelude.{◌≡◌, ◌<◌, ◌≤◌, ◌+◌, List, length, Some, slice_get, IfErr, OnOk};
 ghost use Rattle.bib_spec.specs.Bytes.{file_limit};
 ghost use Rattle.bib_spec.specs.Fault.{IsReadFault};
 ghost use Rattle.shelf_spec.specs.Numbers.{first_place};
@@ -9,22 +9,14 @@ ghost use Rattle.bib_store.specs.Readings.{IsOpenFault};
 ghost use Rattle.bib_shelf.specs.Joined.{AreJoined, text_of, spans_from};
 ghost use Rattle.bib_shelf.specs.Faults.{HaveTheirPlaces, RefusesShelf};
 
+use crate::counting::first_from;
 use crate::fault::ShelfFault;
 use crate::joining::Joined;
-use crate::locating::locate;
+use crate::locating::{bytes_between, locate};
 use bib_scan::{FILE_LIMIT, ReadFault, Seq, read};
 use bib_store::{Database, ItemList};
 use std::alloc::Global;
 use std::marker::Model;
-
-/// The bytes from one place of the text up to another.
-fn bytes_between(text: &[u8], start: usize, end: usize) -> &[u8]
-    requires order { start ≤ end }
-    requires within { end ≤ length text.now }
-    ensures { result.now ≡ take (end - start) (drop start text.now) }
-{
-    text.split_at(start).1.split_at(end - start).0
-}
 
 /// The fault of file `i`, which was read by itself.
 fn fault_of(i: usize, fault: ReadFault) -> ShelfFault
@@ -106,7 +98,10 @@ impl<L: ItemList> Model for Shelf<L> {
 impl<L: ItemList> Shelf<L> {
     ghost use Rattle.std.specs.Prelude.{◌≡◌, ◌<◌, List, [], length, map, IfOk, IfErr, OnOk};
     ghost use Rattle.bib_spec.specs.Text.{Text as FileText};
+    ghost use Rattle.bib_spec.specs.Reading.{Reading};
+    ghost use Rattle.shelf_spec.specs.Shelf.{AllRead};
     ghost use Rattle.bib_shelf.specs.Joined.{AreJoined, located_in};
+    ghost use Rattle.bib_shelf.specs.Items.{items_at};
     ghost use Rattle.bib_shelf.specs.Faults.{AreAccepted, RefusesShelf};
 
     /// Opens these files as one database. `empty` is a list without items, which keeps the items of all files from now on. It
@@ -153,11 +148,32 @@ impl<L: ItemList> Shelf<L> {
         self.spans.as_slice().len()
     }
 
+    /// Where each file begins and ends in the shelf's text, in bytes. It takes no memory.
+    pub fn spans(&self) -> &[(usize, usize)]
+        ensures { result.now ≡ self.now.spans }
+    {
+        self.spans.as_slice()
+    }
+
     /// The file with this place of the shelf's text, and the place in that file; in a seam, the end of the file before it. Places
     /// are in bytes. It takes a search in the list of files, and no memory.
     pub fn locate(&self, place: usize) -> (usize, usize)
         ensures { (files : List FileText) → AreJoined files self.now → result ≡ located_in files place }
     {
         locate(self.spans.as_slice(), place)
+    }
+
+    /// The number that the first item of this file has in the shelf, and how many items the file has. A comment between two files
+    /// has a number too, and is an item of neither file. If the file has no items, the number is that of the comment after the
+    /// file, or the number of all items. It takes two binary searches in the list of items, which look up a place at each step,
+    /// and no memory.
+    pub fn items(&self, file: usize) -> (usize, usize)
+        requires { file < length self.now.spans }
+        ensures { (files : List FileText) (dbs : List Reading) → AreJoined files self.now → AllRead files dbs → result ≡ items_at dbs file }
+    {
+        let (start, end) = self.spans.as_slice()[file];
+        let first = first_from(&self.database, start);
+        let next = first_from(&self.database, end);
+        (first, next.saturating_sub(first))
     }
 }

@@ -1,11 +1,11 @@
 -- Which commands there are, and which arguments, numbers and options each takes.
-use Rattle.std.specs.Prelude.{◌≡◌, ◌≤◌, ◌&&◌, ℕ, Bool, true, false, not, if◌then◌else◌, List, [], ◌∷◌, length, IfSome, IsSomeAnd}
+use Rattle.std.specs.Prelude.{◌≡◌, ◌≤◌, ◌&&◌, ◌||◌, ℕ, Bool, true, false, not, if◌then◌else◌, List, [], ◌∷◌, length, IfSome, IsSomeAnd}
 use Rattle.bib_spec.specs.Text.{Text}
 use Rattle.bib_spec.specs.Records.{depth_limit}
 use Rattle.bib_words.specs.declared.commands.Command.{Command}
 use Rattle.bib_words.specs.declared.verbs.Shape.{Shape}
 use Rattle.bib_words.specs.declared.verbs.Verb.{Verb}
-use Rattle.bib_words.specs.Verbs.{verb_of, shape, adds_change, makes_file, reads_journal, takes_input, takes_dropped, takes_at, takes_scripts, takes_strict}
+use Rattle.bib_words.specs.Verbs.{verb_of, shape, adds_change, makes_file, reads_journal, takes_input, takes_dropped, takes_at, takes_scripts, takes_strict, takes_others}
 
 -- the greatest number that a command takes (dialect)
 abbrev pub number_limit : ℕ
@@ -21,6 +21,10 @@ abbrev pub has_any : List Text → Bool
 has_any [] = false
 has_any (text ∷ texts) = true
 
+-- the command names files that are read before its own or after it
+abbrev pub has_others : Command → Bool
+has_others c = has_any c.before || has_any c.after
+
 -- how many arguments a command of this shape needs: the file alone, if aux files are named that cite its keys
 abbrev pub least_words : Shape → List Text → ℕ
 least_words shape aux = if shape.aux && has_any aux then 1 else shape.least
@@ -34,7 +38,8 @@ pub record HasItsWords (shape : Shape) (c : Command) : Type 0 where
   pub aux : has_any c.aux ≡ true → shape.aux ≡ true
 
 -- the command takes each option that is given: `--print` if it makes a file, `--new-journal` and `--no-journal` if it adds a
--- change, `--all-or-nothing` if it takes scripts, `--dropped` if it is `ris`, `--at` if it is `entry`, `--strict` if it is `cite` (dialect)
+-- change, `--all-or-nothing` if it takes scripts, `--dropped` if it is `ris`, `--at` if it is `entry`, `--strict` if it is `cite`,
+-- `--before` and `--after` if it reads other files too (dialect)
 pub record HasItsOptions (verb : Verb) (c : Command) : Type 0 where
   pub print : c.print ≡ true → makes_file verb ≡ true
   pub new_journal : c.new_journal ≡ true → adds_change verb ≡ true
@@ -43,6 +48,7 @@ pub record HasItsOptions (verb : Verb) (c : Command) : Type 0 where
   pub dropped : c.dropped ≡ true → takes_dropped verb ≡ true
   pub at : c.at ≡ true → takes_at verb ≡ true
   pub strict : c.strict ≡ true → takes_strict verb ≡ true
+  pub others : has_others c ≡ true → takes_others verb ≡ true
 
 -- this command of the program, with its words and options
 pub record IsCommandOf (verb : Verb) (c : Command) : Type 0 where

@@ -113,3 +113,11 @@ takes_scripts _ = false
 abbrev pub takes_strict : Verb → Bool
 takes_strict (Asks Cite) = true
 takes_strict _ = false
+
+-- the commands that read other files too, before and after their own
+abbrev pub takes_others : Verb → Bool
+takes_others (Asks Entry) = false
+takes_others (Asks question) = true
+takes_others Lint = true
+takes_others Names = true
+takes_others verb = false

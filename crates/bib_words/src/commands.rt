@@ -10,14 +10,16 @@ const NUMBER_LIMIT: u32 = 65_535;
 const DEPTH_LIMIT: u8 = 8;
 
 /// A command: its name; its arguments in order, the file first if there is one, and for `lint` after it the codes to ignore;
-/// the names of the aux files that cite more keys; its number, and the depth of the records that it shows, each 0 if the
-/// command takes none; and whether its options `--print`, `--new-journal`, `--no-journal`, `--all-or-nothing`, `--dropped`,
+/// the names of the aux files that cite more keys, and of the files that are read before its own and after it; its number, and
+/// the depth of the records that it shows, each 0 if the command takes none; and whether its options `--print`, `--new-journal`, `--no-journal`, `--all-or-nothing`, `--dropped`,
 /// `--at` and `--strict` were given.
 #[derive(Drop)]
 pub struct Command {
     pub name: Text,
     pub words: Seq<Text>,
     pub aux: Seq<Text>,
+    pub before: Seq<Text>,
+    pub after: Seq<Text>,
     pub n: u32,
     pub depth: u8,
     pub print: bool,
@@ -30,9 +32,9 @@ pub struct Command {
 }
 
 impl Command {
-    ghost use Rattle.std.specs.Prelude.{◌≡◌, ◌↔◌, IsTrue, length};
+    ghost use Rattle.std.specs.Prelude.{◌≡◌, ◌↔◌, ◌<◌, ◌≤◌, [], IsTrue, length, drop, slice_index_or};
     ghost use Rattle.bib_words.specs.Verbs.{verb_of};
-    ghost use Rattle.bib_words.specs.Command.{HasItsWords, HasItsOptions, AddsChange, MakesFile, IsCommand, ReadsJournal, TakesInput};
+    ghost use Rattle.bib_words.specs.Command.{HasItsWords, HasItsOptions, has_others, AddsChange, MakesFile, IsCommand, ReadsJournal, TakesInput};
 
     /// Whether the command has this name. It takes no memory.
     pub fn is_named(&self, name: &[u8]) -> bool
@@ -88,6 +90,13 @@ impl Command {
         }
     }
 
+    /// Whether the command names files that are read before its own or after it. It takes no memory.
+    pub fn has_others(&self) -> bool
+        ensures { result ≡ has_others self.now }
+    {
+        has_any(self.before.as_slice()) || has_any(self.after.as_slice())
+    }
+
     /// Whether the program has a command with this name, this number of arguments, this number and depth, and these
     /// options. It takes no memory.
     pub fn is_known(&self) -> bool
@@ -97,6 +106,22 @@ impl Command {
             Some(verb) => self.has_its_words(verb.shape()) && self.has_its_options(verb),
             None => false,
         }
+    }
+
+    /// The word with this index: the file is the first, with index 0. It takes no memory.
+    pub fn word(&self, i: usize) -> &[u8]
+        requires { i < length self.now.words }
+        ensures { result.now ≡ slice_index_or self.now.words i [] }
+    {
+        self.words.as_slice()[i].as_slice()
+    }
+
+    /// The words after the file. It takes no memory.
+    pub fn words_after_file(&self) -> &[Text]
+        requires { 1 ≤ length self.now.words }
+        ensures { result.now ≡ drop 1 self.now.words }
+    {
+        &self.words.as_slice()[1..]
     }
 
     /// Whether the command has each option that is given.
@@ -110,6 +135,7 @@ impl Command {
             && (!self.dropped || verb.takes_dropped())
             && (!self.at || verb.takes_at())
             && (!self.strict || verb.takes_strict())
+            && (!self.has_others() || verb.takes_others())
     }
 
     /// Whether the command has as many arguments as this shape takes, and the number, the depth and the aux files that it

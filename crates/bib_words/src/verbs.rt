@@ -1,7 +1,7 @@
 //! The commands as data: what each takes and reads.
 
 ghost use Rattle.std.specs.Prelude.{◌≡◌, bytes_eq};
-ghost use Rattle.bib_words.specs.Verbs.{adds_change, makes_file, reads_journal, takes_input, takes_dropped, takes_at, takes_scripts, takes_strict, question_shape, shape, verb_of};
+ghost use Rattle.bib_words.specs.Verbs.{adds_change, makes_file, reads_journal, takes_input, takes_dropped, takes_at, takes_scripts, takes_strict, takes_others, question_shape, shape, verb_of};
 
 /// A command that answers what its file says, and reads nothing else.
 #[derive(Clone, Copy, Debug, PartialEq, Eq)]
@@ -191,6 +191,17 @@ impl Verb {
         ensures { result ≡ takes_strict self }
     {
         matches!(self, Verb::Asks(Question::Cite))
+    }
+
+    /// Whether the command reads other files too, before and after its own.
+    pub fn takes_others(self) -> bool
+        ensures { result ≡ takes_others self }
+    {
+        match self {
+            Verb::Asks(question) => !matches!(question, Question::Entry),
+            Verb::Lint | Verb::Names => true,
+            _ => false,
+        }
     }
 
     /// What the command takes.

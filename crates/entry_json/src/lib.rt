@@ -8,4 +8,4 @@ mod writing;
 
 pub use fault::JsonFault;
 pub use laws::entries_are_read_back;
-pub use writing::add_line;
+pub use writing::{add_line, add_line_in};

@@ -5,7 +5,7 @@ ghost use Rattle.std.specs.Option.{option_copied};
 ghost use Rattle.std.specs.Str.{is_utf8};
 ghost use Rattle.json.specs.Token.{key, string};
 ghost use Rattle.json.specs.Tree.{json_tokens, members_tokens};
-ghost use Rattle.entry_json.specs.EntryJson.{parent_json, fields_json, entry_json, json_line, is_parent_utf8, are_fields_utf8, is_told_utf8};
+ghost use Rattle.entry_json.specs.EntryJson.{parent_json, fields_json, file_json, entry_in_file, json_line, json_line_in, is_any_utf8, are_fields_utf8, is_told_utf8, is_told_utf8_in};
 ghost use Rattle.entry_json.specs.declared.fault.JsonFault.TheVariants.{Memory};
 
 use crate::fault::JsonFault;
@@ -52,8 +52,8 @@ fn write_member(writer: &mut Writer, name: &str, text: &[u8]) -> Result<(), Json
 fn write_parent(writer: &mut Writer, parent: Option<&[u8]>) -> Result<(), JsonFault>
     ensures before { writer.new.before ≡ writer.old.before }
     ensures text { OnOk result (writer.new.tokens ≡ writer.old.tokens ++ json_tokens (parent_json (option_copied parent.entry))) }
-    ensures utf8 { OnOk result (is_parent_utf8 (option_copied parent.entry) ≡ true) }
-    ensures fault { IfErr result (λ fault. fault ≢ Memory → is_parent_utf8 (option_copied parent.entry) ≡ false) }
+    ensures utf8 { OnOk result (is_any_utf8 (option_copied parent.entry) ≡ true) }
+    ensures fault { IfErr result (λ fault. fault ≢ Memory → is_any_utf8 (option_copied parent.entry) ≡ false) }
 {
     match parent {
         Some(key) => write_string(writer, key),
@@ -89,12 +89,31 @@ fn write_fields(writer: &mut Writer, fields: &[(Text, Text)]) -> Result<(), Json
     Ok(())
 }
 
-/// Writes an entry.
-fn write_entry(writer: &mut Writer, rec: &Record, parent: Option<&[u8]>) -> Result<(), JsonFault>
+/// Writes the name of a file, if there is one, and the end of the object that has it.
+fn write_file(writer: &mut Writer, file: Option<&[u8]>) -> Result<(), JsonFault>
     ensures before { writer.new.before ≡ writer.old.before }
-    ensures text { OnOk result (writer.new.tokens ≡ writer.old.tokens ++ json_tokens (entry_json (rec.now, option_copied parent.entry))) }
-    ensures utf8 { OnOk result (is_told_utf8 (rec.now, option_copied parent.entry) ≡ true) }
-    ensures fault { IfErr result (λ fault. fault ≢ Memory → is_told_utf8 (rec.now, option_copied parent.entry) ≡ false) }
+    ensures text { OnOk result (writer.new.tokens ≡ writer.old.tokens ++ members_tokens (file_json (option_copied file.entry))) }
+    ensures utf8 { OnOk result (is_any_utf8 (option_copied file.entry) ≡ true) }
+    ensures fault { IfErr result (λ fault. fault ≢ Memory → is_any_utf8 (option_copied file.entry) ≡ false) }
+{
+    if let Some(name) = file {
+        write_member(writer, "file", name)?;
+    }
+    writer.end_object()?;
+    Ok(())
+}
+
+/// Writes an entry, and the name of its file if there is one.
+fn write_entry(
+    writer: &mut Writer,
+    rec: &Record,
+    parent: Option<&[u8]>,
+    file: Option<&[u8]>,
+) -> Result<(), JsonFault>
+    ensures before { writer.new.before ≡ writer.old.before }
+    ensures text { OnOk result (writer.new.tokens ≡ writer.old.tokens ++ json_tokens (entry_in_file (rec.now, option_copied parent.entry) (option_copied file.entry))) }
+    ensures utf8 { OnOk result (is_told_utf8_in (rec.now, option_copied parent.entry) (option_copied file.entry) ≡ true) }
+    ensures fault { IfErr result (λ fault. fault ≢ Memory → is_told_utf8_in (rec.now, option_copied parent.entry) (option_copied file.entry) ≡ false) }
 {
     writer.begin_object()?;
     write_member(writer, "type", rec.kind_name.as_slice())?;
@@ -104,7 +123,7 @@ fn write_entry(writer: &mut Writer, rec: &Record, parent: Option<&[u8]>) -> Resu
     writer.key("fields")?;
     writer.begin_object()?;
     write_fields(writer, rec.fields.as_slice())?;
-    writer.end_object()?;
+    write_file(writer, file)?;
     Ok(())
 }
 
@@ -115,8 +134,23 @@ pub fn add_line(text: Vec<u8>, rec: &Record, parent: Option<&[u8]>) -> Result<Ve
     ensures utf8 { OnOk result (is_told_utf8 (rec.now, option_copied parent.entry) ≡ true) }
     ensures fault { IfErr result (λ fault. fault ≢ Memory → is_told_utf8 (rec.now, option_copied parent.entry) ≡ false) }
 {
+    add_line_in(text, rec, parent, None)
+}
+
+/// The text, and after it the line of an entry with this record, whose parent has this key, with the name of its file at the end
+/// if there is one. It takes time and memory, and is refused, as `add_line`; also if the name is not UTF-8.
+pub fn add_line_in(
+    text: Vec<u8>,
+    rec: &Record,
+    parent: Option<&[u8]>,
+    file: Option<&[u8]>,
+) -> Result<Vec<u8>, JsonFault>
+    ensures line { IfOk result (λ lines. lines.items ≡ text.items ++ json_line_in (rec.now, option_copied parent.entry) (option_copied file.entry)) }
+    ensures utf8 { OnOk result (is_told_utf8_in (rec.now, option_copied parent.entry) (option_copied file.entry) ≡ true) }
+    ensures fault { IfErr result (λ fault. fault ≢ Memory → is_told_utf8_in (rec.now, option_copied parent.entry) (option_copied file.entry) ≡ false) }
+{
     let mut writer = Writer::new(text);
-    write_entry(&mut writer, rec, parent)?;
+    write_entry(&mut writer, rec, parent, file)?;
     let mut lines = writer.into_inner();
     lines.extend_from_slice(b"\n")?;
     Ok(lines)

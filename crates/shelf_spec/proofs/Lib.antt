@@ -1,3 +1,4 @@
 pub mod ShelfReads
 pub mod ShelfPlaces
 pub mod SeamsSay
+pub mod SeamsDefine

@@ -13,12 +13,12 @@ use Rattle.shelf_spec.specs.Shelf.{seam, seam_item, with_seam, on_shelf}
 use Rattle.shelf_spec.specs.Numbers.{first_item, first_place, item_place, located}
 use Rattle.shelf_spec.specs.Laws.{items_are_numbered, places_are_located, items_are_placed, items_are_located}
 
-slice_get-before : {X : Type 0} (xs ys : List X) (n : ℕ) → n < length xs → slice_get (xs ++ ys) n ≡ slice_get xs n
+pub slice_get-before : {X : Type 0} (xs ys : List X) (n : ℕ) → n < length xs → slice_get (xs ++ ys) n ≡ slice_get xs n
 slice_get-before [] ys n h = absurd (not-suc-le-zero h)
 slice_get-before (x ∷ xs) ys zero h = refl
 slice_get-before (x ∷ xs) ys (suc n) h = slice_get-before xs ys n (le_of_suc-le-suc h)
 
-slice_get-after : {X : Type 0} (xs ys : List X) (n : ℕ) → slice_get (xs ++ ys) (length xs + n) ≡ slice_get ys n
+pub slice_get-after : {X : Type 0} (xs ys : List X) (n : ℕ) → slice_get (xs ++ ys) (length xs + n) ≡ slice_get ys n
 slice_get-after [] ys n = ap (slice_get ys) (zero-add n)
 slice_get-after (x ∷ xs) ys n = ap (slice_get (x ∷ (xs ++ ys))) (one_more (length xs)) ∙ slice_get-after xs ys n
   where
@@ -135,7 +135,7 @@ item_place-within db p =
     within a b c = omega arith
 
 -- the bytes of file i
-bytes_at : (dbs : List Reading) (i : ℕ) (its : Reading) → slice_get dbs i ≡ Some its → slice_get (map bytes_of dbs) i ≡ Some (bytes_of its)
+pub bytes_at : (dbs : List Reading) (i : ℕ) (its : Reading) → slice_get dbs i ≡ Some its → slice_get (map bytes_of dbs) i ≡ Some (bytes_of its)
 bytes_at [] zero its at = absurd (none-some its at)
 bytes_at [] (suc i) its at = absurd (none-some its at)
 bytes_at (db ∷ dbs) zero its at = ap (λ d. Some (bytes_of d)) (same_Some db its at)

@@ -2,7 +2,7 @@
 use Rattle.std.specs.Prelude.{ℕ, zero, suc, ◌+◌, ◌-◌, nat_lt, min, List, [], ◌∷◌, length, take, if◌then◌else◌}
 use Rattle.std.specs.List.{flat_map}
 use Rattle.bib_spec.specs.Text.{Text}
-use Rattle.bib_spec.specs.Reading.{Reading, item_bytes}
+use Rattle.bib_spec.specs.Reading.{Item, Reading, item_bytes}
 use Rattle.shelf_spec.specs.Shelf.{seam}
 
 -- the number, in the shelf, of the first item of file i: the items of the files before it, and i seams
@@ -27,3 +27,11 @@ located file [] place = (0, place)
 located file (next ∷ more) place =
     if nat_lt place (length file + length seam) then (0, min place (length file))
     else let rest = located next more (place - (length file + length seam)) in (suc rest.0, rest.1)
+
+-- the items of all files, one after another, without the seams
+abbrev pub items_of : List Reading → List Item
+items_of dbs = flat_map (λ db. db.items) dbs
+
+-- how many items the files before file i have, without the seams
+abbrev pub items_before : ℕ → List Reading → ℕ
+items_before i dbs = length (items_of (take i dbs))

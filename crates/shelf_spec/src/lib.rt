@@ -7,5 +7,6 @@ mod shelves;
 
 pub use examples::a_shelf_has_a_seam;
 pub use shelves::{
-    a_shelf_has_the_reading_of_its_files, items_and_places_of_files_are_found, seams_give_nothing,
+    a_shelf_has_the_reading_of_its_files, items_and_places_of_files_are_found,
+    seams_define_nothing, seams_give_nothing,
 };

@@ -32,6 +32,19 @@ fn located(alloc: Global, files: &[&[u8]], place: usize) -> Result<(usize, usize
     Ok(shelf.locate(place))
 }
 
+/// The number of the first item of a file, and how many items it has, if there is such a file.
+fn items(
+    alloc: Global,
+    files: &[&[u8]],
+    file: usize,
+) -> Result<Option<(usize, usize)>, ShelfFault> {
+    let shelf = Shelf::open(alloc, files, Paged::new(alloc))?;
+    if file >= shelf.file_count() {
+        return Ok(None);
+    }
+    Ok(Some(shelf.items(file)))
+}
+
 /// Whether this is the text of the shelf, and the shelf has as many files as are given.
 fn is_text(alloc: Global, files: &[&[u8]], text: &[u8]) -> Result<bool, AllocError> {
     let joined = Joined::of(alloc, files)?;
@@ -123,5 +136,45 @@ fn a_place_is_found_in_its_file(rt: HostRuntime) -> Result<(), Fail> {
     assert!(rt; located(alloc, files, 23)? == (1, 0));
     assert!(rt; located(alloc, files, 24)? == (2, 0));
     assert!(rt; located(alloc, files, 27)? == (2, 3));
+    Ok(())
+}
+
+#[test]
+fn each_file_has_its_items(rt: HostRuntime) -> Result<(), Fail> {
+    let alloc = rt.alloc();
+    let files: &[&[u8]] = &[
+        b"@misc{a}\n@misc{b}\n",
+        b"",
+        b"x@comment\n@string{p={1}}\n",
+        b"only text",
+        b"@misc{c}",
+    ];
+    assert!(rt; items(alloc, files, 0)? == Some((0, 2)));
+    // a file without items has the number of the comment after it
+    assert!(rt; items(alloc, files, 1)? == Some((3, 0)));
+    assert!(rt; items(alloc, files, 2)? == Some((4, 2)));
+    assert!(rt; items(alloc, files, 3)? == Some((7, 0)));
+    assert!(rt; items(alloc, files, 4)? == Some((8, 1)));
+    assert!(rt; items(alloc, files, 5)?.is_none());
+    // at the end of the shelf, that is the number of all items
+    assert!(rt; items(alloc, &[b"@misc{a}", b""], 1)? == Some((2, 0)));
+    Ok(())
+}
+
+#[test]
+fn the_items_of_one_file_are_those_of_the_shelf(rt: HostRuntime) -> Result<(), Fail> {
+    let alloc = rt.alloc();
+    assert!(rt; items(alloc, &[b"front @misc{a}@preamble{{x}}"], 0)? == Some((0, 2)));
+    assert!(rt; items(alloc, &[b"only text"], 0)? == Some((0, 0)));
+    assert!(rt; items(alloc, &[b""], 0)? == Some((0, 0)));
+    Ok(())
+}
+
+#[test]
+fn a_comment_like_a_seam_is_an_item_of_its_file(rt: HostRuntime) -> Result<(), Fail> {
+    let alloc = rt.alloc();
+    let files: &[&[u8]] = &[b"@comment %\n", b"@comment %\n@misc{a}"];
+    assert!(rt; items(alloc, files, 0)? == Some((0, 1)));
+    assert!(rt; items(alloc, files, 1)? == Some((2, 2)));
     Ok(())
 }

@@ -26,12 +26,13 @@ pub fn answer_ris(
     ensures { IfOk result (AnswersFile (ris_answer dropped depth keys.now) file.items) }
 {
     match open(alloc, file) {
-        Ok(db) => ris(alloc, &db, keys, depth, dropped),
+        Ok(db) => ris_in(alloc, &db, keys, depth, dropped),
         Err(fault) => unread(alloc, fault),
     }
 }
 
-fn ris(
+/// What `answer_ris` answers, for a file that is open. It takes time and memory for the records of the entries that the keys cite.
+pub fn ris_in(
     alloc: Global,
     db: &Database<Paged>,
     keys: &[Text],

@@ -1,52 +1,10 @@
-use Rattle.bib_answers.proofs.Words.{◌≡◌, ◌∙◌, ℕ, true, false, rules, sym, ap, option_copied, on_ok_weaker, entries_of, is_repeated, assigned, crossref_findings, crossrefs_of}
-use Rattle.bib_answers.proofs.ItemFields.{IsViewed, viewed, viewed_sound, told_entry, entry_within, entry_key}
-use Rattle.bib_answers.proofs.ItemFindings.{other_written, entry_written}
+use Rattle.bib_answers.proofs.Words.{on_ok_weaker}
+use Rattle.bib_answers.proofs.ItemFields.{IsViewed, viewed}
+use Rattle.bib_answers.proofs.ItemFindings.{item_written}
 use Rattle.bib_answers.proofs.findings.add_item_findings.Goals as goal
 
-pub add_field_findings-requires : goal.add_field_findings-requires
-add_field_findings-requires c =
-    let opened = c.opens.ensures in
-    viewed_sound opened.0 c.args.it.n c.args.it.view.now (viewed c.args.db.now opened.0 c.args.it.n c.args.it.view.now opened.1.reads (c.requires.item opened.0 opened.1.reads) (c.requires.seen opened.0 opened.1.reads))
-
-pub returns-then-not-is_same_kind : goal.returns-then-not-is_same_kind
-returns-then-not-is_same_kind c = on_ok_weaker c.add_field_findings.result (λ h r reads.
-    let is : IsViewed r c.args.it.n c.args.it.view.now = viewed c.args.db.now r c.args.it.n c.args.it.view.now reads (c.requires.item r reads) (c.requires.seen r reads) in
-    let told : c.is_same_kind.result ≡ false = search rules in
-    other_written r c.args.it.n c.args.it.view.now is (crossref_findings c.none.result.n (option_copied c.none.result.text) c.none.result.target c.none.result.grandparent) _
-    c.args.lines.now c.begin_item.new.self c.add_field_findings.new.lines c.item_place.result
-    (sym (told_entry r c.args.it.n c.args.it.view.now c.kind.result c.is_same_kind.result is c.kind.ensures c.is_same_kind.ensures) ∙ told)
-    (λ at. ap (λ t. crossref_findings c.none.result.n (option_copied t) c.none.result.target c.none.result.grandparent at) c.none.ensures)
-    (c.macros_at-macros.ensures r reads) c.begin_item.ensures (c.item_place.ensures r reads)
-    (h (assigned is.item.tree) is.fields))
-    c.add_field_findings.ensures
-
-pub is_repeated-repeated-requires : goal.is_repeated-repeated-requires
-is_repeated-repeated-requires c r reads =
-    let is : IsViewed r c.args.it.n c.args.it.view.now = viewed c.args.db.now r c.args.it.n c.args.it.view.now reads (c.requires.item r reads) (c.requires.seen r reads) in
-    let told : c.is_same_kind.result ≡ true = search rules in
-    entry_key r c.args.it.n c.args.it.view.now c.args.it.entries is (sym (told_entry r c.args.it.n c.args.it.view.now c.kind.result c.is_same_kind.result is c.kind.ensures c.is_same_kind.ensures) ∙ told) (c.requires.entries r reads) c.key.result.now c.key.ensures
-
-pub crossref_of-requires : goal.crossref_of-requires
-crossref_of-requires c r reads =
-    let is : IsViewed r c.args.it.n c.args.it.view.now = viewed c.args.db.now r c.args.it.n c.args.it.view.now reads (c.requires.item r reads) (c.requires.seen r reads) in
-    let told : c.is_same_kind.result ≡ true = search rules in
-    entry_within r c.args.it.n c.args.it.view.now c.args.it.entries is (sym (told_entry r c.args.it.n c.args.it.view.now c.kind.result c.is_same_kind.result is c.kind.ensures c.is_same_kind.ensures) ∙ told) (c.requires.entries r reads)
-
-pub add_field_findings-requires-2 : goal.add_field_findings-requires-2
-add_field_findings-requires-2 c =
-    let opened = c.opens.ensures in
-    viewed_sound opened.0 c.args.it.n c.args.it.view.now (viewed c.args.db.now opened.0 c.args.it.n c.args.it.view.now opened.1.reads (c.requires.item opened.0 opened.1.reads) (c.requires.seen opened.0 opened.1.reads))
-
 pub returns : goal.returns
-returns c = on_ok_weaker c.add_field_findings-2.result (λ h r reads.
+returns c = on_ok_weaker c.add_trail_findings.result (λ h r reads.
     let is : IsViewed r c.args.it.n c.args.it.view.now = viewed c.args.db.now r c.args.it.n c.args.it.view.now reads (c.requires.item r reads) (c.requires.seen r reads) in
-    let told : c.is_same_kind.result ≡ true = search rules in
-    entry_written r c.args.it.n c.args.it.view.now is (crossref_findings c.crossref_of.result.n (option_copied c.crossref_of.result.text) c.crossref_of.result.target c.crossref_of.result.grandparent) _
-    c.args.lines.now c.begin_item.new.self c.add_key_findings.new.lines c.add_field_findings-2.new.lines c.item_place.result c.key_at.result c.is_repeated-repeated.result c.key-2.result.now
-    (sym (told_entry r c.args.it.n c.args.it.view.now c.kind.result c.is_same_kind.result is c.kind.ensures c.is_same_kind.ensures) ∙ told)
-    (λ at. c.crossref_of.ensures r reads at ∙ ap (λ (e : ℕ). crossrefs_of (entries_of r) e at) (c.requires.entries r reads))
-    (c.macros_at-macros.ensures r reads) c.begin_item.ensures (c.item_place.ensures r reads)
-    c.key_at.ensures (c.is_repeated-repeated.ensures r reads ∙ ap (is_repeated (entries_of r)) (c.requires.entries r reads)) c.key-2.ensures
-    c.in_ok-add_key_findings.ensures
-    (h (assigned is.item.tree) is.fields))
-    c.add_field_findings-2.ensures
+    item_written r c.args.it.n c.args.it.view.now is c.args.lines.now c.add_body_findings.new.lines c.add_trail_findings.new.lines (c.in_ok-add_body_findings.ensures r reads) (h is.item is.view_is))
+    c.add_trail_findings.ensures

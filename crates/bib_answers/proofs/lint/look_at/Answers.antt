@@ -1,12 +1,15 @@
-use Rattle.bib_answers.proofs.Words.{[], ◌∙◌, sym, ap, View, Written}
+use Rattle.bib_answers.proofs.Words.{◌∙◌, sym, ap, View, Written}
 use Rattle.std.proofs.Common.{arith}
-use Rattle.bib_answers.specs.Lint.{item_lines}
+use Rattle.bib_answers.specs.Lint.{front_lines, item_lines}
 use Rattle.bib_answers.proofs.ReportSteps.{items_more}
 use Rattle.bib_answers.proofs.ItemCounts.{entries_counted, counted_small}
 use Rattle.bib_answers.proofs.lint.look_at.Goals as goal
 
 pub add_item_findings-requires-clause-entries : goal.add_item_findings-requires-clause-entries
 add_item_findings-requires-clause-entries c = c.requires.before.entries
+
+pub add_item_findings-requires-clause-parents : goal.add_item_findings-requires-clause-parents
+add_item_findings-requires-clause-parents c = c.requires.before.empty_parents
 
 pub counted-found-requires : goal.counted-found-requires
 counted-found-requires c = omega (arith, c.requires.before.few_entries, c.requires.small)
@@ -18,12 +21,13 @@ returns c =
     let opened = c.opens.ensures in
     let small = counted_small c.is_same_kind.result c.args.found.now.entries n before.few_entries in record {
       ignored_are = ap (λ (w : Written). w.ignored) (c.in_ok-add_item_findings.ensures opened.0 opened.1.reads);
-      name_is = ap (λ (w : Written). w.name) (c.in_ok-add_item_findings.ensures opened.0 opened.1.reads);
-      bytes_are = ap (λ (w : Written). w.file) (c.in_ok-add_item_findings.ensures opened.0 opened.1.reads);
-      text = λ r reads. items_more (item_lines c.args.found.now.lines.ignored c.args.found.now.lines.name c.args.found.now.lines.file r) n [] c.args.found.now.lines.text c.add_item_findings.new.lines.text
+      names_are = ap (λ (w : Written). w.names) (c.in_ok-add_item_findings.ensures opened.0 opened.1.reads);
+      files_are = ap (λ (w : Written). w.files) (c.in_ok-add_item_findings.ensures opened.0 opened.1.reads);
+      text = λ r reads. items_more (item_lines c.args.found.now.lines.ignored c.args.found.now.lines.names c.args.found.now.lines.files r) n (front_lines c.args.found.now.lines.ignored c.args.found.now.lines.names c.args.found.now.lines.files r) c.args.found.now.lines.text c.add_item_findings.new.lines.text
           (before.text r reads) (ap (λ (w : Written). w.text) (c.in_ok-add_item_findings.ensures r reads));
       entries = λ r reads. c.counted-found.ensures
           ∙ entries_counted r n c.is_same_kind.result c.args.found.now.entries (c.requires.item r reads)
           (λ item at. c.is_same_kind.ensures item.tree (sym (c.kind.ensures ∙ ap (λ (v : View). v.kind) (c.item-item.ensures r reads item at)))) (before.entries r reads);
       few_entries = rw c.counted-found.ensures small;
+      empty_parents = before.empty_parents;
     }

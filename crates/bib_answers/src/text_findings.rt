@@ -1,0 +1,139 @@
+//! What is found in the text of a field.
+
+ghost use Rattle.std.specs.Prelude.{◌≡◌, [], IsTrue, IfOk, OnOk};
+ghost use Rattle.std.specs.Char.{is_ascii};
+ghost use Rattle.std.specs.List.{list_all};
+ghost use Rattle.std.specs.Str.{is_utf8};
+ghost use Rattle.bib_spec.specs.Bytes.{name_limit};
+ghost use Rattle.bib_spec.specs.Reading.{IsValueWithin};
+ghost use Rattle.bib_spec.specs.Texts.{raw_text, field_text};
+ghost use Rattle.bib_scan.specs.View.{Field, field_seen};
+ghost use Rattle.bib_value.specs.Raw.{OfValue};
+ghost use Rattle.bib_persons.specs.Persons.{has_names, refused_names};
+ghost use Rattle.bib_answers.specs.Lint.{refused_findings, field_encoding_findings, text_findings};
+ghost use Rattle.bib_answers.specs.FindingLines.{with_findings};
+
+use crate::finding_lines::FindingLines;
+use crate::warnings::Warning;
+use bib_persons::{has_few_commas, has_names, refused_names};
+use bib_scan::{FieldView, Text, only_part, read_value};
+use bib_value::{MacroTable, field_text, part_text, raw_text};
+use std::alloc::{AllocError, Global};
+use std::str;
+
+/// Adds what is found in the text of a field of an entry. Most texts are plain, and are not put together.
+pub fn add_text_findings<M: MacroTable>(
+    alloc: Global,
+    lines: &mut FindingLines<'_>,
+    macros: &M,
+    field: FieldView<'_>,
+) -> Result<(), AllocError>
+    requires { IsValueWithin name_limit field.value.now }
+    ensures { OnOk result (OfValue field.entry.value.now (λ v. lines.new ≡ with_findings lines.old (text_findings (field_seen field.entry) (field_text (raw_text (M.macros macros.now) v))))) }
+{
+    if is_plain_alone(macros, field) {
+        return Ok(());
+    }
+    let text = value_text(alloc, macros, field.value)?;
+    add_findings_in(alloc, lines, field, text.as_slice())
+}
+
+/// The same, of a field with this text.
+fn add_findings_in(
+    alloc: Global,
+    lines: &mut FindingLines<'_>,
+    field: FieldView<'_>,
+    text: &[u8],
+) -> Result<(), AllocError>
+    ensures { OnOk result (lines.new ≡ with_findings lines.old (text_findings (field_seen field.entry) text.now)) }
+{
+    if has_names(field.name) {
+        add_refused_in(alloc, lines, field.value_at, text)?;
+    }
+    add_field_encoding(lines, field, text)
+}
+
+/// Adds that the name or the text of a field is not UTF-8.
+fn add_field_encoding(
+    lines: &mut FindingLines<'_>,
+    field: FieldView<'_>,
+    text: &[u8],
+) -> Result<(), AllocError>
+    ensures { OnOk result (lines.new ≡ with_findings lines.old (field_encoding_findings (field_seen field.entry) text.now)) }
+{
+    if is_utf8(field.name) && is_utf8(text) {
+        return Ok(());
+    }
+    lines.add(Warning::FieldNotUtf8, field.value_at, field.name)
+}
+
+/// Whether the bytes are UTF-8.
+pub fn is_utf8(bytes: &[u8]) -> bool
+    ensures { result ≡ is_utf8 bytes.now }
+{
+    match str::from_utf8(bytes) {
+        Ok(_) => true,
+        Err(_) => false,
+    }
+}
+
+/// Whether each byte is ASCII.
+fn is_ascii(text: &[u8]) -> bool
+    ensures { result ≡ list_all is_ascii text.now }
+{
+    text.iter().all(|byte| byte.is_ascii())
+}
+
+/// Whether nothing can be found in a field with this name and raw text: both are ASCII, and if it is a list of names, it has few
+/// commas.
+fn is_plain(name: &[u8], raw: &[u8]) -> bool
+    ensures { IsTrue result → (field : Field) → field.name ≡ name.now → text_findings field (field_text raw.now) ≡ [] }
+{
+    if !is_ascii(name) || !is_ascii(raw) {
+        return false;
+    }
+    !has_names(name) || has_few_commas(raw)
+}
+
+/// Whether the value of a field has one part in which nothing can be found.
+fn is_plain_alone<M: MacroTable>(macros: &M, field: FieldView<'_>) -> bool
+    ensures { IsTrue result → OfValue field.entry.value.now (λ v. text_findings (field_seen field.entry) (field_text (raw_text (M.macros macros.now) v)) ≡ []) }
+{
+    match only_part(field.value) {
+        Some(part) => is_plain(field.name, part_text(part, macros, None)),
+        None => false,
+    }
+}
+
+/// Adds the names of a list with this text that `names` refuses.
+fn add_refused_in(
+    alloc: Global,
+    lines: &mut FindingLines<'_>,
+    at: usize,
+    text: &[u8],
+) -> Result<(), AllocError>
+    ensures { OnOk result (lines.new ≡ with_findings lines.old (refused_findings at text.now)) }
+{
+    let names = refused_names(alloc, text)?;
+    'names: for name in names.as_slice() {
+        lines.add(Warning::ManyCommas, at, name)?;
+    }
+    Ok(())
+}
+
+/// The field text of a value. No raw text of a file that is open is too long, so the one refusal is want of memory.
+fn value_text<M: MacroTable>(alloc: Global, macros: &M, value: &[u8]) -> Result<Text, AllocError>
+    requires { IsValueWithin name_limit value.now }
+    ensures { IfOk result (λ text. OfValue value.now (λ v. text ≡ field_text (raw_text (M.macros macros.now) v))) }
+{
+    let Ok(parts) = read_value(alloc, value) else {
+        return Err(AllocError);
+    };
+    let Ok(raw) = raw_text(alloc, &parts, value, macros, None) else {
+        return Err(AllocError);
+    };
+    match field_text(alloc, raw.as_slice()) {
+        Ok(text) => Ok(text),
+        Err(_) => Err(AllocError),
+    }
+}

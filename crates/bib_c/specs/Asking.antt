@@ -1,0 +1,35 @@
+-- A command as C gives it. (dialect)
+use Rattle.std.specs.Prelude.{ℕ, List, [], Option, Some, None}
+use Rattle.bib_spec.specs.Text.{Text}
+use Rattle.bib_words.specs.declared.commands.Command.{Command}
+use Rattle.bib_c.specs.Words.{words_of}
+use Rattle.bib_c.specs.declared.asking.Options.{Options}
+
+-- the command with this name, these arguments, aux files and options, and no other files
+abbrev pub command_of : Text → List Text → List Text → Options → Command
+command_of name words aux options = record {
+  name = name;
+  words = words;
+  aux = aux;
+  before = [];
+  after = [];
+  n = options.n;
+  depth = options.depth;
+  print = options.print;
+  new_journal = options.new_journal;
+  no_journal = options.no_journal;
+  all_or_nothing = options.all_or_nothing;
+  dropped = options.dropped;
+  at = options.at;
+  strict = options.strict;
+}
+
+-- the same of lists that there are
+abbrev pub asked_with : Text → Option (List Text) → Option (List Text) → Options → Option Command
+asked_with name (Some words) (Some aux) options = Some (command_of name words aux options)
+asked_with name (Some words) None options = None
+asked_with name None aux options = None
+
+-- the command whose arguments and aux files are given as one text and lengths each; none if a text is too short for its lengths
+abbrev pub asked_of : Text → Text → List ℕ → Text → List ℕ → Options → Option Command
+asked_of name words lens aux aux_lens options = asked_with name (words_of words lens) (words_of aux aux_lens) options

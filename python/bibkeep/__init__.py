@@ -1,0 +1,59 @@
+"""Edits BibTeX files without changing a byte that nobody asked to change, with undo.
+
+>>> import bibkeep
+>>> library = bibkeep.loads(b"@misc{a, t = 1,}")
+>>> library["a"]["t"]
+'1'
+>>> library.set("a", "y", "{2}")
+>>> library.dumps()
+b'@misc{a, t = 1,\\n  y = {2},}'
+>>> library.undo()
+1
+>>> library.dumps()
+b'@misc{a, t = 1,}'
+"""
+
+from ._commands import Answer, Finding, Word, check, cite, extract, labels, lint, names, run, to_ris
+from ._core import library_version
+from ._errors import (
+    EditError,
+    Error,
+    FileChanged,
+    JournalError,
+    NoSuchEntry,
+    ParseError,
+    ScriptError,
+    TextError,
+    UndoError,
+)
+from ._library import Entry, Library, loads
+
+open = Library.open
+
+__all__ = [
+    "Answer",
+    "EditError",
+    "Entry",
+    "Error",
+    "FileChanged",
+    "Finding",
+    "JournalError",
+    "Library",
+    "NoSuchEntry",
+    "ParseError",
+    "ScriptError",
+    "TextError",
+    "UndoError",
+    "Word",
+    "check",
+    "cite",
+    "extract",
+    "labels",
+    "library_version",
+    "lint",
+    "loads",
+    "names",
+    "open",
+    "run",
+    "to_ris",
+]
