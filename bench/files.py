@@ -389,6 +389,17 @@ def faults(size):
     return b"".join(b"@misc{k%07d, t = {x} u = 20}\n" % n for n in range(size // 32))
 
 
+def cut(text, count):
+    """The text as so many files of about the same length, each of which but the first begins with an item."""
+    places = [text.index(b"\n\n@", len(text) * n // count) + 2 for n in range(1, count)]
+    return [text[start:end] for start, end in zip([0, *places], [*places, len(text)])]
+
+
+def cited(size):
+    """Lines of 24 bytes, each of which cites another key, as an aux file has them: text between items of no file."""
+    return b"".join(b"\\citation{article%05x}\n" % n for n in range(size // 24))
+
+
 def great():
     """A macro whose text is long, and so many uses that all of them would be gigabytes."""
     return b"@string{m = {%s}}\n" % (b"x" * 1000000) + b"".join(b"@misc{k%d, t = m}\n" % n for n in range(20000))
@@ -433,6 +444,8 @@ CONTENTS = {
     "ring 100": lambda: ring(100000),
     "faults 8": lambda: faults(8000000),
     "faults 16": lambda: faults(16000000),
+    "cited 8": lambda: cited(8000000),
+    "cited 16": lambda: cited(16000000),
     "great": great,
     "authors 50000": lambda: authors(50000),
     "authors 100000": lambda: authors(100000),

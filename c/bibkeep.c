@@ -26,7 +26,7 @@ typedef struct {
 typedef struct {
     uint32_t n;
     uint8_t depth;
-    bool print, new_journal, no_journal, all_or_nothing, dropped, at, strict;
+    bool print, new_journal, no_journal, all_or_nothing, dropped, at, strict, raw;
 } core_options;
 
 bool bib_c_new(core_handle *);
@@ -405,7 +405,8 @@ int bibkeep_run(bibkeep *handle, bibkeep_bytes command, const bibkeep_bytes *arg
     }
     core_options core = {given->number,           (uint8_t)given->depth,      given->print != 0,
                          given->new_journal != 0, given->no_journal != 0,     given->all_or_nothing != 0,
-                         given->dropped != 0,     given->at != 0,             given->strict != 0};
+                         given->dropped != 0,     given->at != 0,             given->strict != 0,
+                         given->raw != 0};
     answer->status = bib_c_run(&handle->core, at(command), command.size, words.text, words.size, words.lens, words.count, aux.text,
                                aux.size, aux.lens, aux.count, &core, at(file), file.size, journal != NULL, at(text), text.size,
                                at(input), input.size);

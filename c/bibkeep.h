@@ -152,6 +152,7 @@ typedef struct {
     int dropped;              /* --dropped */
     int at;                   /* --at */
     int strict;               /* --strict */
+    int raw;                  /* --raw */
     const bibkeep_bytes *aux; /* the names of the aux files whose keys are among the arguments */
     size_t aux_count;
 } bibkeep_options;

@@ -20,14 +20,17 @@ _bibkeep() {
     for ((i = 1; i < ${#words[@]}; i++)); do
         case $has_ended${words[i]} in
             --) has_ended=yes ;;
-            --min-crossrefs | --steps | --depth | --aux | --ignore) ((i += 1)) ;;
+            --min-crossrefs | --steps | --depth | --aux | --ignore | --before | --after) ((i += 1)) ;;
             -*) ;;
             *) own+=("${words[i]}") ;;
         esac
     done
     # the word is the value of an option
     if ((i > ${#words[@]})); then
-        if [[ ${words[${#words[@]} - 1]} == --aux ]]; then _bibkeep_offer_files .aux; fi
+        case ${words[${#words[@]} - 1]} in
+            --aux) _bibkeep_offer_files .aux ;;
+            --before | --after) _bibkeep_offer_files ;;
+        esac
         return
     fi
 
@@ -39,14 +42,16 @@ _bibkeep() {
     if [[ $current == -* && -z $has_ended ]]; then
         case $command in
             entry) options='--at --hints --help' ;;
-            lint) options='--ignore --hints --help' ;;
-            cite) options='--min-crossrefs --strict --aux --hints --help' ;;
-            labels | json) options='--depth --aux --hints --help' ;;
-            show | names | newkeys) options='--depth --hints --help' ;;
-            ris) options='--depth --dropped --aux --hints --help' ;;
-            extract) options='--aux --hints --help' ;;
+            check) options='--before --after --hints --help' ;;
+            lint) options='--ignore --aux --before --after --hints --help' ;;
+            cite) options='--min-crossrefs --strict --aux --before --after --hints --help' ;;
+            labels) options='--depth --aux --before --after --hints --help' ;;
+            json) options='--depth --raw --aux --before --after --hints --help' ;;
+            show | names | newkeys) options='--depth --before --after --hints --help' ;;
+            ris) options='--depth --dropped --aux --before --after --hints --help' ;;
+            extract) options='--aux --before --after --hints --help' ;;
             edit) options='--print --new-journal --no-journal --all-or-nothing --hints --help' ;;
-            import) options='--print --new-journal --no-journal --hints --help' ;;
+            import) options='--print --new-journal --no-journal --latex --hints --help' ;;
             undo | redo) options='--steps --print --hints --help' ;;
             *) options='--hints --help' ;;
         esac

@@ -10,7 +10,7 @@ function __bibkeep_words
             set is_value no
         else if test $has_ended = yes
             printf '%s\n' $word
-        else if contains -- $word --depth --steps --min-crossrefs --aux
+        else if contains -- $word --depth --steps --min-crossrefs --aux --ignore --before --after
             set is_value yes
         else if test "$word" = --
             set has_ended yes
@@ -106,13 +106,18 @@ complete -c bibkeep -n '__fish_seen_subcommand_from edit import undo redo' -l pr
 complete -c bibkeep -n '__fish_seen_subcommand_from edit import' -l new-journal -d 'Begins a new journal if the old one is not a journal or does not fit the file'
 complete -c bibkeep -n '__fish_seen_subcommand_from edit import' -l no-journal -d 'Reads and writes no journal: this change cannot be undone, nor any before it'
 complete -c bibkeep -n '__fish_seen_subcommand_from edit' -l all-or-nothing -d 'Stores nothing if a line of the script is refused'
+complete -c bibkeep -n '__fish_seen_subcommand_from import' -l latex -d 'Writes texts so that LaTeX prints them as they are, except url and doi'
 complete -c bibkeep -n '__fish_seen_subcommand_from entry' -l at -d 'Prints a line before each entry: the number of its item, counted from 0, its line and its column'
 complete -c bibkeep -n '__fish_seen_subcommand_from undo redo' -l steps -x -d 'How many changes, from 1 to 65535'
 complete -c bibkeep -n '__fish_seen_subcommand_from show labels json names newkeys ris' -l depth -x -d 'From how many parents in a chain an entry inherits, from 1 to 8'
 complete -c bibkeep -n '__fish_seen_subcommand_from ris' -l dropped -d 'Lists the fields that RIS leaves out, as key, tab and field, instead of the RIS text'
 complete -c bibkeep -n '__fish_seen_subcommand_from cite labels json ris extract' -l aux -r -k -a '(__fish_complete_suffix .aux)' -d 'An aux file of LaTeX; the keys that it cites come after the KEYs'
+complete -c bibkeep -n '__fish_seen_subcommand_from lint' -l aux -r -k -a '(__fish_complete_suffix .aux)' -d 'An aux file of LaTeX; the keys that it cites are looked up'
+complete -c bibkeep -n '__fish_seen_subcommand_from check lint show cite labels json names newkeys ris extract' -l before -r -k -a '(__fish_complete_suffix .bib)' -d 'A BibTeX file that is read before F; may be given several times'
+complete -c bibkeep -n '__fish_seen_subcommand_from check lint show cite labels json names newkeys ris extract' -l after -r -k -a '(__fish_complete_suffix .bib)' -d 'A BibTeX file that is read after F; may be given several times'
+complete -c bibkeep -n '__fish_seen_subcommand_from json' -l raw -d 'Prints the fields as they are written, and where each entry stands'
 complete -c bibkeep -n '__fish_seen_subcommand_from cite' -l strict -d 'Ends with status 1 if a key is unknown'
-complete -c bibkeep -n '__fish_seen_subcommand_from lint' -l ignore -x -a 'undefined-macro own-macro repeated-field repeated-key missing-parent own-parent early-parent nested-parent no-key odd-key conflict-marker lost-entry lone-brace repeated-macro refused-name empty-crossref not-utf8' -d 'Leaves out findings with this code; may be given several times'
+complete -c bibkeep -n '__fish_seen_subcommand_from lint' -l ignore -x -a 'undefined-macro own-macro repeated-field repeated-key missing-parent own-parent early-parent nested-parent no-key odd-key conflict-marker lost-entry lone-brace repeated-macro refused-name empty-crossref not-utf8 missing-key' -d 'Leaves out findings with this code; may be given several times'
 complete -c bibkeep -n '__fish_seen_subcommand_from cite' -l min-crossrefs -x -d 'How many cited entries must refer to a parent so that it is listed too, from 1 to 65535'
 complete -c bibkeep -n '__bibkeep_has 1 cat check lint show entry cite labels json names newkeys edit undo redo log forget ris extract import' -k -a '(__fish_complete_suffix .bib)'
 complete -c bibkeep -n '__bibkeep_has 2 show names' -a '(__bibkeep_keys)'

@@ -48,6 +48,7 @@ def run(
     dropped: bool = False,
     at: bool = False,
     strict: bool = False,
+    raw: bool = False,
     aux: Iterable[Word] = (),
     raises: bool = True,
 ) -> Answer:
@@ -67,6 +68,7 @@ def run(
         dropped,
         at,
         strict,
+        raw,
     )
     if not (0 <= options.number < 1 << 32 and 0 <= options.depth < 1 << 32):
         raise ValueError("an argument is out of its range")

@@ -62,6 +62,7 @@ class RawOptions(ctypes.Structure):
         ("dropped", c_int),
         ("at", c_int),
         ("strict", c_int),
+        ("raw", c_int),
         ("aux", POINTER(Lent)),
         ("aux_count", c_size_t),
     ]
@@ -79,6 +80,7 @@ class Options(NamedTuple):
     dropped: bool = False
     at: bool = False
     strict: bool = False
+    raw: bool = False
 
 
 class Ran(NamedTuple):

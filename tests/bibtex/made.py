@@ -1,14 +1,16 @@
 """Files that are made by rule, from a seed: entries with all that a file may have between and inside of them."""
 
 from random import Random
-from typing import NamedTuple
+from typing import NamedTuple, Union
 
 
 class File(NamedTuple):
+    """A file; or several that are read as one, with a text for each."""
+
     name: str
-    text: bytes
-    # the same file, in which entry n has the key `e` and n, and `crossref` is an ordinary field
-    plain: bytes
+    text: Union[bytes, tuple]
+    # the same, in which entry n has the key `e` and n, and `crossref` is an ordinary field
+    plain: Union[bytes, tuple]
 
 
 PLAIN_CROSSREF = b"xref"
@@ -35,6 +37,16 @@ def made_file(seed, count, has_odd_keys=True):
     return Maker(seed, has_odd_keys).file(count)
 
 
+def made_files(seed, count, number, has_odd_keys=True):
+    """The same file, cut into so many files."""
+    return Maker(seed, has_odd_keys).files(count, number)
+
+
+def ended(parts, line_end):
+    """The parts, with two line ends after them: BibTeX takes one command from the last line of a file."""
+    return b"".join([*parts, b"\n\n"]).replace(b"\n", line_end)
+
+
 class Maker:
     def __init__(self, seed, has_odd_keys):
         self.random = Random(seed)
@@ -42,6 +54,20 @@ class Maker:
         self.has_odd_keys = has_odd_keys
 
     def file(self, count):
+        whole, plain, line_end = self.parts(count)
+        return File(f"made file {self.seed}", ended(whole, line_end), ended(plain, line_end))
+
+    def files(self, count, number):
+        whole, plain, line_end = self.parts(count)
+        cuts = [0, *sorted(self.random.sample(range(1, len(whole)), number - 1)), len(whole)]
+        texts, plains = (
+            tuple(ended(parts[start:end], line_end) for start, end in zip(cuts, cuts[1:])) for parts in (whole, plain)
+        )
+        return File(f"made files {self.seed}", texts, plains)
+
+    def parts(self, count):
+        """What a file of so many entries is made of: the items and the texts between them; the same of the plain file; and how lines
+        end."""
         self.keys = self.made_keys(count)
         front = self.between()
         whole, plain = [front], [front]
@@ -50,10 +76,7 @@ class Maker:
                 after = self.between()
                 whole += [text, after]
                 plain += [same, after]
-        # BibTeX takes one command from the last line of a file
-        line_end = self.random.choice([b"\n", b"\n", b"\n", b"\r\n"])
-        whole, plain = (b"".join([*parts, b"\n\n"]).replace(b"\n", line_end) for parts in (whole, plain))
-        return File(f"made file {self.seed}", whole, plain)
+        return whole, plain, self.random.choice([b"\n", b"\n", b"\n", b"\r\n"])
 
     # ---- keys
 

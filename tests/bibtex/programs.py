@@ -44,21 +44,34 @@ class Bibtex:
     def __init__(self, command, folder):
         self.command = command
         self.folder = folder
+        self.names = b""
         # nothing outside of the folder is looked for
         self.environment = dict(os.environ, BIBINPUTS=".", BSTINPUTS=".", LC_ALL="C")
 
     def takes(self, file, style):
-        """The file and the style that the next answers are about."""
-        write(self.folder, "file.bib", file)
+        """The file, or the files, and the style that the next answers are about."""
+        self.names = self.lay(file)
         write(self.folder, "style.bst", style.text)
+
+    def lay(self, file):
+        """Puts a file, or several, into the folder, and returns the names by which an aux file tells them."""
+        names = [b"file%d" % n if n else b"file" for n, _ in enumerate(texts_of(file))]
+        for name, text in zip(names, texts_of(file)):
+            write(self.folder, name.decode() + ".bib", text)
+        return b",".join(names)
 
     def answer(self, keys, minimum=2):
         """What the style prints for these keys, where so many children add their parent."""
         citations = [b"\\citation{%s}\n" % key for key in keys]
-        write(self.folder, "list.aux", b"".join([*citations, b"\\bibstyle{style}\n\\bibdata{file}\n"]))
+        write(self.folder, "list.aux", b"".join([*citations, b"\\bibstyle{style}\n\\bibdata{%s}\n" % self.names]))
         words = [self.command, f"-min-crossrefs={minimum}", "list"]
         ran = subprocess.run(words, cwd=self.folder, env=self.environment, stdin=subprocess.DEVNULL, stdout=subprocess.PIPE)
         return answer_in(ran.stdout)
+
+
+def texts_of(file):
+    """The texts of a file: one, or those of several files that are read as one."""
+    return file if isinstance(file, tuple) else (file,)
 
 
 def write(folder, name, content):
@@ -103,12 +116,20 @@ def take_message(answer, line):
 class Bibkeep:
     def __init__(self, program, folder):
         self.program = program
-        self.path = os.path.join(folder, "bibkeep.bib")
+        self.folder = folder
+        self.path = None
+        # the options that name the files before and after this one
+        self.others = []
 
     def takes(self, file):
-        """The file that the next answers are about. Returns whether it can be opened."""
-        with open(self.path, "wb") as made:
-            made.write(file)
+        """The file, or the files, that the next answers are about. Returns whether they can be opened. Of several files one in the
+        midst is that of the command, and the others come before and after it."""
+        paths = [os.path.join(self.folder, f"bibkeep{n}.bib") for n, _ in enumerate(texts_of(file))]
+        for path, text in zip(paths, texts_of(file)):
+            write(self.folder, path, text)
+        midst = len(paths) // 2
+        self.path = paths[midst]
+        self.others = [f"--before={path}" for path in paths[:midst]] + [f"--after={path}" for path in paths[midst + 1 :]]
         return self.run("check").returncode == 0
 
     def place_of_fault(self):
@@ -125,7 +146,8 @@ class Bibkeep:
         return self.lines("check")[5:]
 
     def run(self, command, *words, options=()):
-        words = [self.program, command, *options, "--", self.path, *words]
+        others = [] if command == "cat" else self.others
+        words = [self.program, command, *others, *options, "--", self.path, *words]
         return subprocess.run(words, stdin=subprocess.DEVNULL, stdout=subprocess.PIPE, stderr=subprocess.PIPE)
 
     def lines(self, command, *words, options=()):

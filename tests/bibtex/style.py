@@ -4,6 +4,8 @@ the names of its authors, or else of its editors, by templates."""
 import re
 from typing import NamedTuple
 
+from programs import texts_of
+
 MONTHS = b"January February March April May June July August September October November December".split()
 # Words that mean something in every style, so that no style can have a field or a type of that name.
 TAKEN = set(
@@ -40,7 +42,8 @@ class Style(NamedTuple):
 
 
 def style_for(file, templates=()):
-    """A style that knows every field and every type of a file, but no type that has the name of a field."""
+    """A style that knows every field and every type of a file, or of several, but no type that has the name of a field."""
+    file = b"\n".join(texts_of(file))
     fields = sorted({b"author", b"editor", *words_of(file, FIELD)})
     types = [word for word in words_of(file, TYPE) if word not in fields]
     lines = [b"ENTRY { " + b"\n".join(fields) + b" } { } { }", WORDS]

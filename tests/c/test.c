@@ -181,7 +181,10 @@ static void commands(void) {
     o.dropped = 1, o.depth = 1;
     CHECK(bibkeep_run(h, text("ris"), &all, 1, &o, text(REFS), NULL, text(""), &a, &e) == 0 && a.status == 0);
     CHECK(bibkeep_run(h, text("json"), &all, 1, &o, text(REFS), NULL, text(""), &a, &e) == BIBKEEP_MISUSE && a.status == 2);
-    o.dropped = 0;
+    o.dropped = 0, o.raw = 1;
+    CHECK(bibkeep_run(h, text("json"), &all, 1, &o, text(REFS), NULL, text(""), &a, &e) == 0 && a.status == 0);
+    CHECK(bibkeep_run(h, text("labels"), &all, 1, &o, text(REFS), NULL, text(""), &a, &e) == BIBKEEP_MISUSE && a.status == 2);
+    o.raw = 0;
     CHECK(bibkeep_run(h, text("labels"), NULL, 0, &o, text(REFS), NULL, text(""), &a, &e) == BIBKEEP_MISUSE);
     o.aux = two, o.aux_count = 1; /* an aux file that cites no key */
     CHECK(bibkeep_run(h, text("labels"), NULL, 0, &o, text(REFS), NULL, text(""), &a, &e) == 0 && a.output.size == 0);

@@ -91,8 +91,11 @@ def compare_example(report, where, example, program, folder):
 
 
 def lay_examples(examples, folder):
-    """The files that the help texts speak of: those of the guide, with the first record of its RIS file."""
+    """The files that the help texts speak of: those of the guide, with the first record of its RIS file, and two others."""
     shutil.copy(os.path.join(examples, "guide.bib"), os.path.join(folder, "refs.bib"))
+    for name, text in (("strings.bib", "@string{jacm = {J. ACM}}\n"), ("parents.bib", "@proceedings{type90, year = 1990}\n")):
+        with open(os.path.join(folder, name), "w", encoding="utf-8") as file:
+            file.write(text)
     shutil.copy(os.path.join(examples, "paper.aux"), folder)
     with open(os.path.join(folder, "citation.ris"), "w", encoding="utf-8") as file:
         file.write(re.match(r"(?s).*?\nER  - \n", read(os.path.join(examples, "citation.ris"))).group(0))

@@ -8,7 +8,7 @@ import tempfile
 
 CAT = re.compile(r"^cat ([\w.-]+)$")
 # Commands that not every machine has. A block with one that is not here is left out.
-TOOLS = re.compile(r"\b(git|jq|make|perl|python3|xargs)\b")
+TOOLS = re.compile(r"\b(cc|git|jq|make|perl|python3|xargs)\b")
 
 
 def compare(report, root, pages, program):

@@ -16,6 +16,8 @@ IDENTITY = {name: "nobody" for name in ("GIT_AUTHOR_NAME", "GIT_AUTHOR_EMAIL", "
 # The file with which a rule for `make` is tried, and the aux file beside it.
 MADE = "refs.bib"
 CITING = "paper.aux"
+# Files that a rule may read before and after it.
+OTHERS = ("strings.bib", "parents.bib")
 
 
 def compare(report, root, pages):
@@ -82,6 +84,8 @@ def compare_rule(report, page, block, text, clone):
     """The rules of a Makefile are met by a file without a finding, and fail on one; if they read an aux file, on a file without its key."""
     write(os.path.join(clone.path, "Makefile"), text)
     write(os.path.join(clone.path, CITING), "\\citation{a}\n")
+    for other in OTHERS:
+        write(os.path.join(clone.path, other), "")
     unmet = "@misc{b}\n" if CITING in text else "@misc{a, t = m}\n"
     for content, wanted in [("@misc{a}\n", 0), (unmet, 2)]:
         write(os.path.join(clone.path, MADE), content)

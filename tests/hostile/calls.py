@@ -4,8 +4,8 @@ import os
 from itertools import count
 from signal import SIGKILL
 
-from cases import CASES, FILE, INPUT, JOURNAL, NEW_FILE, NEW_JOURNAL, OUTPUT
-from program import LINKED, MISMATCH, READ_FAULT, WRITE_FAULT, Left, answer_of, difference, refusal_of, seen
+from cases import CASES, FILE, INPUT, JOURNAL, NEW_FILE, NEW_JOURNAL, OTHER, OUTPUT
+from program import LINKED, MISMATCH, WRITE_FAULT, Left, answer_of, difference, read_fault_of, refusal_of, seen
 from report import Seen
 
 LIBRARY = "fail_calls"
@@ -30,10 +30,6 @@ def with_trouble(program, case, ending, wanted, **trouble):
     return seen(left, {ending: wanted}, f"{case.name}, {where}")
 
 
-def read_fault_of(case):
-    return refusal_of(case, 3, READ_FAULT)
-
-
 def write_fault_of(case, written):
     return refusal_of(case, 3, WRITE_FAULT, written)
 
@@ -47,7 +43,7 @@ def failing_reads(program, case):
     """Each read that a run makes: one call for a byte, and one for the end."""
     for source in case.reads:
         for room in range(len(case.source(source)) + 1):
-            yield with_trouble(program, case, "read fault", read_fault_of(case), on=source, piece=1, room=room)
+            yield with_trouble(program, case, "read fault", read_fault_of(case, source), on=source, piece=1, room=room)
     for source in {FILE, JOURNAL, INPUT} - set(case.reads):
         if case.source(source) is not None:
             yield with_trouble(program, case, "not read", answer_of(case), on=source, room=0)
@@ -61,7 +57,7 @@ def interrupted_reads(program, case):
             where = {"on": source, "piece": 1, "after": place}
             borne = answer_of(case, met=True)
             yield with_trouble(program, case, "answered", borne, interrupted=BORNE, **where)
-            yield with_trouble(program, case, "read fault", read_fault_of(case), interrupted=BORNE + 1, **where)
+            yield with_trouble(program, case, "read fault", read_fault_of(case, source), interrupted=BORNE + 1, **where)
 
 
 def small_writes(program, case):
@@ -151,6 +147,8 @@ def endings_beside_a_link(case):
 def endings_with_a_failing_call(case):
     """A read fault, a write fault, or the answer where the call made no difference, as the closing of a source does."""
     wanted = {"answered": answer_of(case, met=True), "read fault": read_fault_of(case)}
+    if case.other is not None:
+        wanted["read fault of the other file"] = read_fault_of(case, OTHER)
     if case.output or case.may_store():
         # the output could not be written, or what is in the place of the journal could not be looked at
         wanted["write fault"] = write_fault_of(case, b"")

@@ -8,6 +8,8 @@ from dataclasses import dataclass
 from typing import Optional
 
 FILE = "f.bib"
+# A file that is read before the first one, or after it.
+OTHER = "strings.bib"
 JOURNAL = f"{FILE}.bibkeep"
 NEW_FILE = f"{FILE}.bibkeep-new"
 NEW_JOURNAL = f"{JOURNAL}.bibkeep-new"
@@ -24,6 +26,7 @@ class Case:
     file: Optional[bytes] = None
     journal: Optional[bytes] = None
     input: bytes = b""
+    other: Optional[bytes] = None
     reads: tuple = (FILE,)
     status: int = 0
     output: bytes = b""
@@ -42,7 +45,7 @@ class Case:
 
     def source(self, name):
         """The bytes of a source."""
-        return {FILE: self.file, JOURNAL: self.journal, INPUT: self.input}[name]
+        return {FILE: self.file, OTHER: self.other, JOURNAL: self.journal, INPUT: self.input}[name]
 
     def stores(self):
         return self.new_file is not None or self.new_journal is not None
@@ -207,6 +210,12 @@ READING = [
     Case(("lint", FILE), b"@misc{a, t = u}\n@misc{A}", status=1, output=b"f.bib:1:14: warning: macro u is not defined [undefined-macro]\nf.bib:2:7: warning: key A is that of an earlier entry [repeated-key]\n"),
     Case(("lint", FILE), b"@misc{a,\n t = \"}\"}", status=1, output=b"f.bib:2:7: error: 6 UnbalancedBrace\n"),
     Case(("json", FILE, "knu84"), BOOKS, output=b'{"type":"misc","key":"Knu84","parent":"Lam86","fields":{"author":"Leslie Lamport","year":"1986"}}\n'),
+    Case(
+        ("json", FILE, "--raw", "knu84"),
+        BOOKS,
+        output=b'{"type":"misc","key":"Knu84","parent":"Lam86","fields":{"author":{"name":"author","value":"{Leslie Lamport}","inherited":false},'
+        b'"year":{"name":"year","value":"1986","inherited":false}},"item":1,"line":2,"column":1}\n',
+    ),
     Case(("newkeys", FILE), BOOKS, output=b"Lam86\tKnu84\nKnu84\tLam86\n"),
     Case(("ris", FILE, "--dropped", "a"), b"@misc{a, t = 1, year = 2000}", output=b"a\tt\n"),
     Case(("labels", FILE, "--depth", "2", "p"), CHAIN, output=b"anon99\tp\n"),
@@ -226,7 +235,39 @@ READING = [
 # A text that is both a BibTeX file and an aux file. (What fails in an aux file is told with its name.)
 CITING = [
     Case(("cite", FILE, "--aux", FILE), PART, output=b"a\n"),
+    Case(("lint", FILE, "--aux", FILE), b"\\citation{A,zz}\n@misc{a}\n", status=1, output=b"f.bib:1:13: warning: key zz is cited and no entry has it [missing-key]\n"),
     Case(("extract", FILE, "b", "--aux", FILE), PART, output=b"@string{m = {x}}\n@misc{a, crossref = {b}, t = m}\n@misc{b}\n"),
+]
+
+
+
+def among_several(words, file, other, option="--before", **answer):
+    """A run over two files that are read as one."""
+    return Case((*words, option, OTHER), file=file, other=other, reads=(FILE, OTHER), **answer)
+
+
+MACRO = b"@string{p = {Press}}\n"
+CHILD = b"@misc{c, t = p, crossref = {v}}\n"
+BOTH = MACRO + b"@book{v, year = 2001}\n"
+SEVERAL = [
+    among_several(("check", FILE), CHILD, BOTH, output=b"items 3\nentries 2\nmacros 1\npreambles 0\ncomments 0\nparent before c\n"),
+    among_several(("check", FILE), CHILD, b"@misc{", "--after", status=1, message=b"bibkeep: 1 Unended at 6 in strings.bib\n"),
+    among_several(("lint", FILE), b"@misc{c, t = p}\n@misc{C}", MACRO, status=1, output=b"f.bib:2:7: warning: key C is that of an earlier entry [repeated-key]\n"),
+    among_several(("lint", FILE), CHILD, b"@misc{a,\n t = \"}\"}", status=1, output=b"strings.bib:2:7: error: 6 UnbalancedBrace\n"),
+    among_several(("show", FILE, "c"), CHILD, BOTH, output=b"@misc c\nt = Press\nyear = 2001\ncrossref = v\n"),
+    among_several(("cite", FILE, "c", "zz"), CHILD, BOTH, output=b"c\n? zz\n"),
+    among_several(("labels", FILE, "*"), CHILD, BOTH, output=b"anon01a\tv\nanon01b\tc\n"),
+    among_several(
+        ("json", FILE, "c"),
+        CHILD,
+        BOTH,
+        output=b'{"type":"misc","key":"c","parent":"v","fields":{"t":"Press","year":"2001"},"file":"f.bib"}\n',
+    ),
+    among_several(("names", FILE, "a", "{ll}"), b"@misc{a, author = p}", MACRO, output=b"Press\n"),
+    among_several(("newkeys", FILE), CHILD, BOTH, "--after", output=b"c\tanon01\nv\tanon01a\n"),
+    among_several(("ris", FILE, "c"), CHILD, BOTH, output=b"TY  - GEN\nPY  - 2001///\nID  - c\nER  - \n"),
+    among_several(("extract", FILE, "c"), CHILD, BOTH, output=MACRO + b"@book{v, year = 2001}\n" + CHILD),
+    among_several(("extract", FILE, "c", "zz"), CHILD, BOTH, status=1, message=b"bibkeep: 11 NoSuchEntry in zz\n"),
 ]
 
 EDITING = [
@@ -340,6 +381,8 @@ PRINTING = [
     printed(("edit", FILE), WITH_ENTRY, b"remove\tk\n", b"abc"),
     printed(("edit", FILE, "remove", "k"), WITH_ENTRY, None, b"abc", journal_before=TAKEN_BACK),
     printed(("import", FILE), b"abc", KING_RIS, b"abc" + KING_ADDED),
+    printed(("import", FILE, "--latex"), b"abc", b"TY  - GEN\nTI  - 5% {a & b\nAU  - X_Y\nUR  - z_%\nID  - k\nER  - \n",
+            b"abc@misc{k,\n  author = {X\\_Y},\n  title = {5\\% {\\textbraceleft}a \\& b},\n  url = {z_%}\n}\n"),
     printed(("undo", FILE), b"abc", None, WITH_ENTRY, journal_before=REMOVED),
     printed(("redo", FILE), WITH_ENTRY, None, b"abc", journal_before=TAKEN_BACK),
     # the edits before a refused line are in what is printed, and where there are none nothing is
@@ -462,4 +505,4 @@ TURNING = [
     Case(("forget", FILE), b"abc", b"no journal", new_journal=journal(b"abc")),
 ]
 
-CASES = READING + EDITING + WORDING + PRINTING + JOURNALLESS + BEGINNING + IMPORTING + TURNING
+CASES = READING + SEVERAL + EDITING + WORDING + PRINTING + JOURNALLESS + BEGINNING + IMPORTING + TURNING

@@ -6,9 +6,14 @@ import re
 import resource
 import subprocess
 
-from cases import BOOKS, CONFERENCE, FIELD, FILE, FIRST, INPUT, JOURNAL, KING, KING_ADDED, KING_RIS, LONG_ONE, PARENTS
+from cases import BOOKS, CHILD, CONFERENCE, FIELD, FILE, FIRST, INPUT, JOURNAL, KING, KING_ADDED, KING_RIS, LONG_ONE, MACRO, OTHER, PARENTS
 from cases import REGENERATED, REPORTS, ROW, SECOND, TWO, Case, doubled, imported, journal, unimported
 from program import LINKED, READ_FAULT, Left, answer_of, seen
+
+# Files that are read as one, in this order: the parent of an entry comes after it, and the macro before it.
+TOGETHER = {OTHER: MACRO, FILE: CHILD, "parents.bib": b"@book{v, year = 2001}\n"}
+TOGETHER_WORDS = ("check", FILE, "--before", OTHER, "--after", "parents.bib")
+MANY = 65535
 
 # Files that can be read, from worked examples.
 ACCEPTED = [
@@ -107,6 +112,8 @@ def tried(report, program):
     for file in [*ACCEPTED, doubled(20)]:
         for command in ("cat", "check"):
             report.tried("a file is cut at each byte", command, cut(program, command, file))
+    report.tried("one of several files is cut at each byte", "check", cut_one_of_several(program))
+    report.tried(f"{MANY:,} empty files", "check", many_files(program))
     for text, entry, skipped in RIS_TEXTS:
         report.tried("a RIS text is cut at each byte", "import", cut_ris(program, text, entry, skipped))
     for case in DEEP:
@@ -114,6 +121,7 @@ def tried(report, program):
     report.tried("a change at places far apart, on a small stack", "edit", on_a_small_stack(program, renamed(), STACK_FAR_APART))
     for words in READERS + WITH_JOURNAL:
         report.tried("a file never ends", words[0], endless(program, words, FILE, FILE_TOO_LONG))
+    report.tried("a file never ends", "check", endless(program, ("check", FILE, "--before", OTHER), OTHER, FILE_TOO_LONG[:-1] + b" in strings.bib\n"))
     for words in WITH_JOURNAL:
         report.tried("a journal that is no file", words[0], no_journal(program, words))
     for words in [("cat",), ("edit", FILE), ("import", FILE)]:
@@ -128,6 +136,29 @@ def cut(program, command, file):
         unended = Left(1, b"", b"bibkeep: 1 Unended at %d\n" % size, prefix, None)
         read = Left(0, prefix if command == "cat" else left.output, b"", prefix, None)
         yield seen(left, {"read": read, "ended too early": unended}, f"{command} of {prefix!r}")
+
+
+def cut_one_of_several(program):
+    """Each prefix of each file goes with the others, or is named as one that ended too early."""
+    for name, file in TOGETHER.items():
+        for size in range(len(file)):
+            program.clear()
+            for other, content in {**TOGETHER, name: file[:size]}.items():
+                program.lay(other, content)
+            left = program.run(TOGETHER_WORDS)
+            unended = left._replace(status=1, output=b"", message=b"bibkeep: 1 Unended at %d in %s\n" % (size, name.encode()))
+            read = left._replace(status=0, message=b"")
+            yield seen(left, {"read": read, "ended too early": unended}, f"{name} is {file[:size]!r}")
+
+
+def many_files(program):
+    """As many empty files as a list of names may be long."""
+    program.clear()
+    program.lay("e", b"")
+    program.lay(FILE, FIELD)
+    left = program.run(("check", FILE, *["--after=e"] * MANY))
+    answered = left._replace(status=0, output=b"items 1\nentries 1\nmacros 0\npreambles 0\ncomments 0\n", message=b"")
+    yield seen(left, {"answered": answered}, f"{MANY:,} files")
 
 
 def cut_ris(program, text, entry, skipped):

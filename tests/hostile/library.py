@@ -22,7 +22,7 @@ CRATE = "refusals"
 STANDS_ON = (
     "bib_text folded_map bib_scan bib_faults bib_data bib_pieces bib_value bib_numbers bib_order bib_index bib_entries "
     "bib_definitions bib_items bib_store bib_steps bib_names bib_keys bib_tokens bib_edit bib_journal journal_format "
-    "bib_script ris_text ris_format bib_ris bib_taps"
+    "bib_script ris_text ris_format bib_ris bib_taps bib_shelf bib_extract aux_text"
 )
 # The number of the request that is refused, and how many the program makes before it spends any.
 REFUSED = 400
@@ -44,6 +44,8 @@ ROWS = {
     "plans": 25,
     "journals": 8,
     "references": 14,
+    "shelves": 4,
+    "extracts": 4,
 }
 LEFT_OUT = {("flat_edits", row) for row in (1, 2, 3, 5, *range(7, 15))}
 

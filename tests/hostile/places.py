@@ -7,8 +7,8 @@ import signal
 import subprocess
 from itertools import product
 
-from cases import CASES, FILE, INPUT, JOURNAL, NEW_FILE, NEW_JOURNAL
-from program import LINKED, READ_FAULT, WRITE_FAULT, answer_of, left_in, refusal_of, seen
+from cases import CASES, FILE, INPUT, JOURNAL, NEW_FILE, NEW_JOURNAL, OTHER
+from program import LINKED, READ_FAULT, WRITE_FAULT, answer_of, left_in, read_fault_of, refusal_of, seen
 
 NOBODY = 65534
 PAGE = os.sysconf("SC_PAGE_SIZE")
@@ -53,9 +53,9 @@ def close(closed):
 
 
 def unopened(program, case):
-    """A folder in the place of the file or of the journal, a link to itself, or what may not be read; or no file."""
-    for name in [name for name in (FILE, JOURNAL) if name in case.reads]:
-        for make in (os.mkdir, loop, forbid, *([nothing] if name == FILE else [])):
+    """A folder in the place of a file or of the journal, a link to itself, or what may not be read; or no file."""
+    for name in [name for name in (FILE, OTHER, JOURNAL) if name in case.reads]:
+        for make in (os.mkdir, loop, forbid, *([] if name == JOURNAL else [nothing])):
             if make is loop and name == JOURNAL and "--new-journal" in case.words:
                 continue
             program.lay_case(case)
@@ -63,10 +63,10 @@ def unopened(program, case):
                 os.remove(program.path(name))
             make(program.path(name))
             left = program.run(case.words, case.input, preexec_fn=be_nobody)
-            ending, wanted = "read fault", unmet(refusal_of(case, 3, READ_FAULT))
+            ending, wanted = "read fault", unmet(read_fault_of(case, name))
             if make is loop and name == JOURNAL:
                 ending, wanted = "a damaged journal", unmet(refusal_of(case, 1, LINKED))
-            if make is not forbid:
+            if make is not forbid and name != OTHER:
                 wanted = wanted._replace(**{"file" if name == FILE else "journal": None})
             yield seen(left, {ending: wanted}, f"{case.name}, {make.__name__} of {name}")
 

@@ -5,7 +5,7 @@ import shutil
 import subprocess
 from typing import NamedTuple, Optional
 
-from cases import FILE, JOURNAL
+from cases import FILE, JOURNAL, OTHER
 from report import Seen
 
 READ_FAULT = b"bibkeep: read fault\n"
@@ -37,6 +37,13 @@ def answer_of(case, met=False):
 def refusal_of(case, status, message, output=b""):
     """The same, where trouble was met and nothing was stored."""
     return Left(status, output, message, case.file, case.journal, met=True)
+
+
+def read_fault_of(case, source=FILE):
+    """The same, where this source cannot be read: its name is told if several files are read as one."""
+    if case.other is None:
+        return refusal_of(case, 3, READ_FAULT)
+    return refusal_of(case, 3, b"bibkeep: read fault in %s\n" % source.encode())
 
 
 def difference(wanted, found):
@@ -102,6 +109,7 @@ class Program:
     def lay_case(self, case):
         self.clear()
         self.lay(FILE, case.file)
+        self.lay(OTHER, case.other)
         self.lay(JOURNAL, case.journal)
 
     def run(self, words, given=b"", library=None, preexec_fn=None, **trouble):
@@ -146,7 +154,7 @@ def toolchain():
 
 def left_in(folder, ran, met=False):
     """What a run answered, and left in the folder."""
-    others = tuple(sorted(name for name in os.listdir(folder) if name not in (FILE, JOURNAL)))
+    others = tuple(sorted(name for name in os.listdir(folder) if name not in (FILE, OTHER, JOURNAL)))
     file, journal = (content_of(os.path.join(folder, name)) for name in (FILE, JOURNAL))
     return Left(ran.returncode, ran.stdout, ran.stderr, file, journal, others, met)
 

@@ -104,6 +104,8 @@ when log hinted_new.bib --hints; ends_with 1; says 'bibkeep: 53 BadJournal at 0
   bibkeep explain 53 says more'
 given hinted.ris 'TY  - BOOK\nTI  - One\nER  - \nTY  - BOOK\nTI  - a}b\nER  - \n'
 input=hinted.ris; when import hinted.bib --hints; ends_with 1; hinted '64 UnbalancedText' '  record 2 of the input, line 5: TI  - a}b'
+given hinted.ris 'TY  - BOOK\nTI  - a}b\nUR  - c}d\nER  - \n'
+input=hinted.ris; when import hinted.bib --latex --hints; ends_with 1; hinted '64 UnbalancedText' '  record 1 of the input, line 3: UR  - c}d'
 given hinted.ris 'TY  - BOOK\nTI  - One\nTY  - BOOK\nER  - \n'
 input=hinted.ris; when import hinted.bib --hints; ends_with 1; says 'bibkeep: 62 NoEnd at 21
   the record that begins in line 1 of the input has no line ER before line 3  TI  - One

@@ -44,12 +44,13 @@ finds_nothing '@string{m = {x}}@misc{m, m = m}@preamble{m}@string{n = m}'
 
 # Names that `names` refuses, in the first author and the first editor of an entry.
 finds '@misc{a, author = {A, B, C, D and E, F}}' 'linted.bib:1:19: warning: name A, B, C, D has too many commas: 21 TooManyCommas [refused-name]\n'
-finds '@string{m = {A,\n B,C,D}}@misc{a, Editor = m # { and } # m}' 'linted.bib:2:27: warning: name A, B,C,D has too many commas: 21 TooManyCommas [refused-name]\nlinted.bib:2:27: warning: name A, B,C,D has too many commas: 21 TooManyCommas [refused-name]\n'
+finds '@misc{a, author = {A,\n B,C,D}, Editor = {E, F, G, H} # { and } # {E, F, G, H}}' 'linted.bib:1:19: warning: name A, B,C,D has too many commas: 21 TooManyCommas [refused-name]\nlinted.bib:2:19: warning: name E, F, G, H has too many commas: 21 TooManyCommas [refused-name]\nlinted.bib:2:19: warning: name E, F, G, H has too many commas: 21 TooManyCommas [refused-name]\n'
+finds_nothing '@string{m = {A, B, C, D}}@misc{a, author = m, editor = m # { and } # {E, F, G, H}}'
 finds '@misc{a, author = {A}, AUTHOR = {A, B, C, D}}' 'linted.bib:1:24: warning: field AUTHOR is there already [repeated-field]\n'
 finds_nothing '@misc{a, author = {A, B, C and D, E, F and {A, B, C, D} and G, H, I,,}, title = {1, 2, 3, 4, 5}}@string{author = {A, B, C, D}}'
 
-# What json refuses: a type, a key, a field's name or text that is not UTF-8. Texts are read with their macros.
-finds '@string{m = {\351}}@misc{a, t = m, u = {\303\251}, v = {\303} # {\251}}@misc{b, t\351 = 1, crossref = {\351}}' 'linted.bib:1:30: warning: field t is not UTF-8: 24 NotUtf8 [not-utf8]\nlinted.bib:1:71: warning: field t\351 is not UTF-8: 24 NotUtf8 [not-utf8]\nlinted.bib:1:85: warning: crossref \351 names no entry [missing-parent]\n'
+# What json refuses: a type, a key, a field's name or text that is not UTF-8. The texts of macros are not looked through.
+finds '@string{m = {\351}}@misc{a, t = m # {\351}, u = {\303\251}, v = {\303} # {\251}}@misc{b, t\351 = 1, crossref = {\351}}' 'linted.bib:1:77: warning: field t\351 is not UTF-8: 24 NotUtf8 [not-utf8]\nlinted.bib:1:91: warning: crossref \351 names no entry [missing-parent]\n'
 finds '@m\351sc{a\351, t = 1}' 'linted.bib:1:7: warning: type m\351sc is not UTF-8: 24 NotUtf8 [not-utf8]\nlinted.bib:1:7: warning: key a\351 is not UTF-8: 24 NotUtf8 [not-utf8]\n'
 
 # Markers that a merge left between items: seven times one of four signs, and then white space or nothing.
@@ -70,6 +71,39 @@ when lint linted.bib --ignore undefined-macro; ends_with 1; prints 'linted.bib:1
 when lint --ignore repeated-field linted.bib --ignore repeated-key --ignore=undefined-macro; ends_with 0; writes_nothing; says_nothing
 when lint linted.bib --ignore repeated --ignore '' --ignore undefined-macro; ends_with 1; prints 'linted.bib:1:17: warning: field t is there already [repeated-field]\nlinted.bib:1:29: warning: key A is that of an earlier entry [repeated-key]\n'; says_nothing
 when lint newline.bib --ignore 6 --ignore UnbalancedBrace; ends_with 1; prints 'newline.bib:1:16: error: 6 UnbalancedBrace\n'; says_nothing
+
+# With `--aux`, the keys that aux files cite and no entry has, each once, where it is cited first. Letters of any case are the same,
+# `*` is no key, and a line that does not end with its brace does not count.
+given cited.bib '@misc{Known, t = u}@misc{b}'
+given cited.aux '\\relax \n\\citation{known,zz}\n\\citation{B,*,Yy,ZZ}\r\n\\citation{,,yy,x}\n\\citation{w\n \\citation{v}\n'
+when lint cited.bib --aux cited.aux; ends_with 1; prints 'cited.bib:1:18: warning: macro u is not defined [undefined-macro]\ncited.aux:2:17: warning: key zz is cited and no entry has it [missing-key]\ncited.aux:3:15: warning: key Yy is cited and no entry has it [missing-key]\ncited.aux:4:16: warning: key x is cited and no entry has it [missing-key]\n'; says_nothing
+when lint cited.bib --aux cited.aux --ignore missing-key; ends_with 1; prints 'cited.bib:1:18: warning: macro u is not defined [undefined-macro]\n'; says_nothing
+when lint --ignore undefined-macro --aux cited.aux --ignore missing-key cited.bib; ends_with 0; writes_nothing; says_nothing
+
+# Several aux files, and those that they name: each file is read once, with its own lines.
+given more.aux '\\citation{x}\n\\citation{w,Known}\n'
+when lint --aux more.aux cited.bib --ignore undefined-macro --aux=./cited.aux; ends_with 1; prints 'more.aux:1:11: warning: key x is cited and no entry has it [missing-key]\nmore.aux:2:11: warning: key w is cited and no entry has it [missing-key]\n./cited.aux:2:17: warning: key zz is cited and no entry has it [missing-key]\n./cited.aux:3:15: warning: key Yy is cited and no entry has it [missing-key]\n'; says_nothing
+
+# Keys are looked up in all files that are read as one.
+given others.bib '@misc{zz}@misc{YY}'
+when lint cited.bib --after others.bib --ignore undefined-macro --aux cited.aux; ends_with 1; prints 'cited.aux:4:16: warning: key x is cited and no entry has it [missing-key]\n'; says_nothing
+
+# What an aux file names lies in the folder of the first one.
+mkdir -p cites
+given cites/main.aux '\\citation{z1}\n\\@input{one.aux}\n\\citation{z2}\n\\@input{one.aux}\n'
+given cites/one.aux '\\citation{z3,Z2}\n\\@input{main.aux}\n'
+given none.bib ''
+when lint none.bib --aux cites/main.aux; ends_with 1; prints 'cites/main.aux:1:11: warning: key z1 is cited and no entry has it [missing-key]\ncites/main.aux:3:11: warning: key z2 is cited and no entry has it [missing-key]\ncites/one.aux:1:11: warning: key z3 is cited and no entry has it [missing-key]\n'; says_nothing
+
+# A key that is too long for an entry is missing, and is the same in another case.
+when_shell_runs 'printf "\\\\citation{%0300d%s,%0300d%s,%0300d%s}\n" 0 k 0 K 0 kk >long.aux && "$program" lint none.bib --aux long.aux | cut -d : -f 1-3'; prints 'long.aux:1:11\nlong.aux:1:615\n'; says_nothing
+
+# A file that is not valid has its faults and nothing else; an aux file that cannot be read is a fault; no key is missing.
+when lint newline.bib --aux cited.aux; ends_with 1; prints 'newline.bib:1:16: error: 6 UnbalancedBrace\n'; says_nothing
+when lint cited.bib --aux none.aux; ends_with 3; writes_nothing; says 'bibkeep: read fault in none.aux'
+given known.aux '\\citation{KNOWN}\n\\citation{*}\n'
+when lint cited.bib --ignore undefined-macro --aux known.aux; ends_with 0; writes_nothing; says_nothing
+when check cited.bib --aux cited.aux; ends_with 2; writes_nothing; complains_of "'--aux'"
 
 # A file that cannot be opened has one finding, an error.
 when lint newline.bib; ends_with 1; prints 'newline.bib:1:16: error: 6 UnbalancedBrace\n'; says_nothing

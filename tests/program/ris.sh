@@ -83,6 +83,39 @@ given_import '@misc{c, crossref = {P}}' 'TY  - GEN\nID  - p\nPY  - 1999\nER  - \
 import; ends_with 0; prints 'added 1 skipped 0\n'; leaves '@misc{c, crossref = {P}}@misc{p,\n  year = {1999}\n}\n'
 when show edited.bib c; ends_with 0; prints '@misc c\nyear = 1999\ncrossref = p\n'
 
+# With --latex, LaTeX prints texts as they are in RIS: each of the ten bytes that it takes for commands is written otherwise, and no
+# other byte. Braces match then, whatever the RIS text has.
+import_latex() {
+    input=script
+    when import --latex edited.bib
+}
+given_import '' 'TY  - GEN\nTI  - & %% $ # _ { } ~ ^ \\\nID  - t\nER  - \n'
+import_latex; ends_with 0; prints 'added 1 skipped 0\n'; says_nothing
+leaves '@misc{t,\n  title = {\\& \\%% \\$ \\# \\_ {\\textbraceleft} {\\textbraceright} {\\textasciitilde} {\\textasciicircum} {\\textbackslash}}\n}\n'
+when check edited.bib; ends_with 0
+when undo edited.bib; ends_with 0; prints 'undone 1\n'; leaves ''
+given_import '' 'TY  - GEN\nTI  - \\input{secret} a}b  "c" <d> |e| `f\n  \\g\nID  - t\nER  - \n'
+import; ends_with 1; says 'bibkeep: 64 UnbalancedText'
+import_latex; ends_with 0; prints 'added 1 skipped 0\n'
+leaves '@misc{t,\n  title = {{\\textbackslash}input{\\textbraceleft}secret{\\textbraceright} a{\\textbraceright}b "c" <d> |e| `f {\\textbackslash}g}\n}\n'
+
+# Names are taken apart at each comma, and a name that BibTeX would read as another one is put into braces as ever.
+given_import '' 'TY  - GEN\nAU  - Smith & Sons, Ann_B, Jr\nAU  - {Smith & Sons, Inc}\nAU  - a, b, c, d & e\nAU  - Simon and %% Co\nAU  - X~Y, , #\nA2  - } & {\nID  - t\nER  - \n'
+import_latex; ends_with 0; prints 'added 1 skipped 0\n'
+leaves '@misc{t,\n  author = {Smith \\& Sons, Jr, Ann\\_B and {\\textbraceleft}Smith \\& Sons, Inc{\\textbraceright} and {a, b, c, d \\& e} and {Simon and \\%% Co} and X{\\textasciitilde}Y, \\#, {}},\n  editor = {{\\textbraceright} \\& {\\textbraceleft}}\n}\n'
+
+# Every field but url and doi; an ID that can be a key stays.
+given_import '' 'TY  - JOUR\nJO  - A & B\nPY  - 19#4/03//\nVL  - 1#\nIS  - 2%%\nSP  - 1_2\nEP  - 3_4\nPB  - P & Q\nCY  - C~D\nSN  - 12_3\nUR  - http://x.org/a_b?c=%%20&d~e#f\nDO  - 10.1/a_b<c>{d}^\\\nAB  - x^2\nN1  - ${1}\nKW  - a & b\nKW  - c, d%%\nID  - a_b&c\nER  - \n'
+import_latex; ends_with 0; prints 'added 1 skipped 0\n'
+leaves '@article{a_b&c,\n  journal = {A \\& B},\n  year = {19\\#4},\n  month = {March},\n  volume = {1\\#},\n  number = {2\\%%},\n  pages = {1\\_2--3\\_4},\n  publisher = {P \\& Q},\n  address = {C{\\textasciitilde}D},\n  issn = {12\\_3},\n  url = {http://x.org/a_b?c=%%20&d~e#f},\n  doi = {10.1/a_b<c>{d}^\\},\n  abstract = {x{\\textasciicircum}2},\n  note = {\\${\\textbraceleft}1{\\textbraceright}},\n  keywords = {a \\& b, c, d\\%%}\n}\n'
+given_import '' 'TY  - GEN\nUR  - a}b\nER  - \n'
+import_latex; ends_with 1; writes_nothing; says 'bibkeep: 64 UnbalancedText'; leaves ''
+given_import '' 'AU  - &\n'
+import_latex; ends_with 1; writes_nothing; says 'bibkeep: 61 NoStart at 0'; leaves ''
+when import --latex --print edited.bib; ends_with 0; writes_nothing; says_nothing
+when edit --latex edited.bib; ends_with 2; writes_nothing
+when ris --latex king.bib k1; ends_with 2; writes_nothing
+
 # Why nothing is added, in the order in which it is judged: the file and the journal, the length of the input, its lines,
 # the braces of its texts, and the edit. Neither the file nor its journal is touched.
 refuses_import() {

@@ -27,6 +27,12 @@ when_shell_runs '"$root/install" --uninstall one two'; ends_with 2; writes_nothi
 when_shell_runs 'unset HOME; "$root/install"'; ends_with 2; writes_nothing; says 'install: the variable HOME is not set; say where bibkeep is to be: ./install PREFIX'
 when_shell_runs 'HOME= "$root/install" --uninstall'; ends_with 2; writes_nothing; complains_of 'the variable HOME is not set'
 
+# A C compiler finds the library by pkg-config, whatever the folder is called.
+if [ -e prefix/lib/libbibkeep.so.0 ] && command -v cc >/dev/null && command -v pkg-config >/dev/null; then
+    when_shell_runs '"$root/install" "with a  space" >/dev/null && PKG_CONFIG_PATH="with a  space/lib/pkgconfig" pkg-config --cflags --libs bibkeep >flags && eval "cc \"\$root/examples/year.c\" $(cat flags) -o year"'; ends_with 0; writes_nothing; says_no_more
+    when_shell_runs 'cp "$root/examples/refs.bib" year.bib && LD_LIBRARY_PATH="with a  space/lib" ./year year.bib l94 1995 && sed "s/year=1994 /year=1995 /" "$root/examples/refs.bib" | cmp - year.bib'; ends_with 0; writes_nothing; says_nothing
+fi
+
 # Whoever reads the system's files reads these.
 when_shell_runs 'umask 077; "$root/install" shared >/dev/null; find shared -type d ! -perm 755 -o -type f ! -perm 644 ! -name bibkeep'; ends_with 0; writes_nothing
 when_shell_runs 'find shared -name bibkeep -type f -perm 755; find shared -name bibkeep -type f -perm 644'; prints 'shared/bin/bibkeep\nshared/share/bash-completion/completions/bibkeep\n'; says_nothing
@@ -41,7 +47,7 @@ when_shell_runs 'HOME=$PWD/home "$root/install" --uninstall >/dev/null; ls -A ho
 
 # The last lines say what is left to type, and no more than that.
 when_shell_runs '"$root/install" prefix | grep -A 1 PATH='; ends_with 0; mentions "    export PATH=\"$work/prefix/bin:\$PATH\""
-when_shell_runs 'PATH=$PWD/prefix/bin:$PATH; "$root/install" prefix | grep -c PATH='; prints '0\n'
+when_shell_runs 'PATH=$PWD/prefix/bin:$PATH; "$root/install" prefix | grep -c "export PATH="'; prints '0\n'
 when_shell_runs 'mkdir -p first; cp "$root/bibkeep" first; PATH=$PWD/first:$PWD/prefix/bin:$PATH; "$root/install" prefix'; ends_with 0; mentions "    $work/first/bibkeep"
 if command -v bash >/dev/null; then
     when_shell_runs '"$root/install" prefix'; mentions "    . \"$work/prefix/share/bash-completion/completions/bibkeep\""

@@ -34,6 +34,7 @@ RUNS = [
     ("labels", {}, ["*"]),
     ("json", {}, ["*"]),
     ("json", {"depth": 2}, ["*"]),
+    ("json", {"raw": True}, ["*"]),
     ("ris", {}, ["*"]),
     ("ris", {"dropped": True}, ["*"]),
     ("show", {}, ["podc"]),
@@ -46,7 +47,7 @@ RUNS = [
     ("names", {}, ["x", "{ff"]),
 ]
 
-OPTIONS = {"depth": "--depth", "number": "--min-crossrefs", "dropped": "--dropped", "at": "--at", "strict": "--strict"}
+OPTIONS = {"depth": "--depth", "number": "--min-crossrefs", "dropped": "--dropped", "at": "--at", "strict": "--strict", "raw": "--raw"}
 
 
 class Commands(unittest.TestCase):

@@ -16,7 +16,11 @@ when_shell_runs 'RT=nowhere tree/bibkeep'; ends_with 127; writes_nothing; compla
 # It is proved and built in any case if that is asked for.
 given_tree
 when_shell_runs 'RT=nowhere tree/install --prove refused'; ends_with 127; writes_nothing; complains_of 'there is no command nowhere'
-when_shell_runs 'tree/install --prove prefix >/dev/null && prefix/bin/bibkeep'; ends_with 0; prints 'low\n'; complains_of 'tools/build: proving low'
+when_shell_runs 'CC=sh tree/install --prove prefix >/dev/null && prefix/bin/bibkeep'; ends_with 0; prints 'low\n'; complains_of 'tools/build: proving low'
+when_shell_runs 'head -n 1 prefix/lib/libbibkeep.so'; prints 'a library for here\n'; says_nothing
+when_shell_runs 'CC=nowhere tree/install prefix >/dev/null && head -n 1 prefix/lib/libbibkeep.so'; ends_with 0; prints 'a library for here\n'
+given_tree
+when_shell_runs 'CC=nowhere tree/install --prove prefix >/dev/null && head -n 1 prefix/lib/libbibkeep.so'; ends_with 0; prints 'a library for x86_64-linux\n'
 given_tree
 when_shell_runs 'tree/tools/build && tree/bibkeep'; ends_with 0; prints 'low\n'; complains_of 'tools/build: proving low'
 when_shell_runs 'tree/install --help'; ends_with 0; mentions 'Usage: ./install [--prove] [PREFIX]'; says_nothing

@@ -32,6 +32,26 @@ given_built_tree "$program"
 rm -r tree/release
 when_compared 'no release'; ends_with 1; mentions 'there is no release/SUMS'
 
+# The same of a library and of a wheel.
+given_built_tree "$program"
+when_compared 'a library that fits'; ends_with 0; mentions 'the library-aarch64-linux that was proved and built here is the released one, byte by byte'; says_nothing
+echo more >>tree/release/library-x86_64-linux/libbibkeep.so.0
+when_compared 'a library that is not the stated one'; ends_with 1; mentions 'release/library-x86_64-linux/libbibkeep.so.0 is not the one that release/SUMS states'
+restate 'library x86_64-linux library-x86_64-linux/libbibkeep.so.0' "$(sha256sum <tree/release/library-x86_64-linux/libbibkeep.so.0 | cut -d ' ' -f 1)"
+when_compared 'a changed library, with its sum mended'; ends_with 1; mentions 'the library-x86_64-linux that was proved and built here from the same sources by the same toolchain is another one'
+given_built_tree "$program"
+rm tree/release/bibkeep-aarch64-linux.whl
+when_compared 'a wheel that is not there'; ends_with 1; mentions 'release/bibkeep-aarch64-linux.whl is not the one that release/SUMS states'
+given_built_tree "$program"
+restate 'object library-aarch64-linux' "$(sha256sum <row.bib | cut -d ' ' -f 1)"
+when_compared 'a library of another compiled crate'; ends_with 1; mentions 'the library-aarch64-linux that was proved and built here from the same sources by the same toolchain is another one'
+given_built_tree "$program"
+restate 'beside library-x86_64-linux' 'another objcopy'
+when_compared 'a library that another tool made'; ends_with 0; mentions 'what was compiled for the library-x86_64-linux is that of the release, byte by byte'; says_nothing
+given_built_tree "$program"
+echo more >>tree/c/heap.c
+when_compared 'the C layer changed'; ends_with 0; mentions 'the library is not compared with what was built here, since its sources have changed since it was made'; says_nothing
+
 # If the sources are newer, it is not compared, and that is no failure.
 given_built_tree one_byte
 echo more >>tree/crates/low/src/lib.rt
@@ -47,7 +67,8 @@ when_compared 'another toolchain'; ends_with 0; mentions 'since another toolchai
 
 # two builds give the same bytes: this one and the release's, and where that is of other sources, two links
 if command -v "$toolchain" >/dev/null; then
-    when_shell_runs 'RT=$toolchain "$root/tests/release/compare" linked'; ends_with 0; says_nothing
+    cat linked made_libraries >lines
+    when_shell_runs 'RT=$toolchain "$root/tests/release/compare" lines'; ends_with 0; says_nothing
     cat seen/out
     if is_linked x86_64-linux; then
         when_shell_runs 'RT=$toolchain "$root/tools/static" x86_64-linux | grep -vxFf linked'; writes_nothing; says_nothing

@@ -20,6 +20,13 @@ when_shell_runs 'cmp "$program" prefix/bin/bibkeep && cmp tree/man/bibkeep.1 pre
 when_shell_runs '$alone prefix/bin/bibkeep cat row.bib'; ends_with 0; writes row.bib; says_nothing
 when_shell_runs '$alone HOME="$PWD/home" tree/install && home/.local/bin/bibkeep cat row.bib | cmp - row.bib'; ends_with 0; says_nothing
 
+# The library goes where compilers look for it, and away again; a release without one is installed too.
+when_shell_runs 'cd prefix && find lib include ! -type d | sort'; prints 'include/bibkeep.h\nlib/libbibkeep.a\nlib/libbibkeep.so\nlib/libbibkeep.so.0\nlib/pkgconfig/bibkeep.pc\n'
+when_shell_runs 'cmp tree/release/library-x86_64-linux/libbibkeep.so.0 prefix/lib/libbibkeep.so && cat prefix/lib/pkgconfig/bibkeep.pc'; ends_with 0; prints "prefix=$work/prefix\nlibdir=\${prefix}/lib\n"
+when_shell_runs 'tree/install --uninstall prefix >/dev/null && ls prefix'; writes_nothing; complains_of prefix
+when_shell_runs 'sed -i "/^library /d" tree/release/SUMS && $alone tree/install prefix'; ends_with 0; mentions 'The library for C was not put there: none was built or released for this machine.'; says_nothing
+when_shell_runs 'ls -d prefix/lib prefix/include'; writes_nothing
+
 # It says so if the sources have changed, and not if something else has.
 changed='tools/program: the sources have changed since this program was released; tools/build proves and builds it from them'
 still_answers_after() {

@@ -4,7 +4,7 @@
 given_built_tree "$program"
 when_shell_runs 'tree/tools/release && diff -r fits/release tree/release'; ends_with 0; writes_nothing; says_nothing
 when_shell_runs 'rm -r tree/release && cp -R tree elsewhere && touch elsewhere/crates/bibkeep/out/bibkeep && elsewhere/tools/release && diff -r fits/release elsewhere/release'; ends_with 0; writes_nothing; says_nothing
-when_shell_runs 'cat elsewhere/release/SUMS | sed "s/ [0-9a-f]\{64\}$/ SUM/"'; prints 'object x86_64-linux SUM\nbeside x86_64-linux SUM\nprogram x86_64-linux SUM\nobject aarch64-linux SUM\nbeside aarch64-linux SUM\nprogram aarch64-linux SUM\nobject wasm SUM\nbeside wasm SUM\nprogram wasm SUM\ntoolchain a toolchain\nsources SUM\nfile HANDLES SUM\nfile crates.txt SUM\nfile tools/heap.c SUM\nfile tools/static SUM\nfile tools/static.c SUM\nfile tools/wasm.c SUM\nfile tools/wasm.ll SUM\ncrate bibkeep SUM\ncrate low SUM\n'; says_nothing
+when_shell_runs 'cat elsewhere/release/SUMS | sed "s/ [0-9a-f]\{64\}$/ SUM/"'; prints 'object x86_64-linux SUM\nbeside x86_64-linux SUM\nprogram x86_64-linux SUM\nobject aarch64-linux SUM\nbeside aarch64-linux SUM\nprogram aarch64-linux SUM\nobject wasm SUM\nbeside wasm SUM\nprogram wasm SUM\nobject library-x86_64-linux SUM\npackage library-x86_64-linux SUM\nbeside library-x86_64-linux SUM\nlibrary x86_64-linux library-x86_64-linux/bibkeep.h SUM\nlibrary x86_64-linux library-x86_64-linux/libbibkeep.a SUM\nlibrary x86_64-linux library-x86_64-linux/libbibkeep.so.0 SUM\nlibrary x86_64-linux library-x86_64-linux/bibkeep.pc SUM\nlibrary x86_64-linux bibkeep-x86_64-linux.whl SUM\nobject library-aarch64-linux SUM\npackage library-aarch64-linux SUM\nbeside library-aarch64-linux SUM\nlibrary aarch64-linux library-aarch64-linux/bibkeep.h SUM\nlibrary aarch64-linux library-aarch64-linux/libbibkeep.a SUM\nlibrary aarch64-linux library-aarch64-linux/libbibkeep.so.0 SUM\nlibrary aarch64-linux library-aarch64-linux/bibkeep.pc SUM\nlibrary aarch64-linux bibkeep-aarch64-linux.whl SUM\ntoolchain a toolchain\nlibrary-sources SUM\nsources SUM\nfile HANDLES SUM\nfile crates.txt SUM\nfile tools/heap.c SUM\nfile tools/static SUM\nfile tools/static.c SUM\nfile tools/wasm.c SUM\nfile tools/wasm.ll SUM\ncrate bibkeep SUM\ncrate low SUM\n'; says_nothing
 when_shell_runs 'cmp elsewhere/release/bibkeep-x86_64-linux "$program" && cmp elsewhere/release/bibkeep-aarch64-linux "$program" && cmp elsewhere/release/bibkeep.wasm "$program"'; ends_with 0; writes_nothing; says_nothing
 
 given_built_tree built
@@ -20,5 +20,14 @@ printf '#!/bin/sh\necho "object $1 x"; exit 1\n' >tree/tools/static
 when_shell_runs 'tree/tools/release'; ends_with 1; writes_nothing; says_nothing
 when_shell_runs 'diff -r fits/release tree/release'; ends_with 0; writes_nothing; says_nothing
 given_built_tree built
+printf '#!/bin/sh\necho "object library-$1 x"; exit 4\n' >tree/tools/libraries
+when_shell_runs 'tree/tools/release'; ends_with 1; writes_nothing; says_nothing
+when_shell_runs 'diff -r fits/release tree/release'; ends_with 0; writes_nothing; says_nothing
+given_built_tree built
 when_shell_runs 'RT=nowhere tree/tools/release'; ends_with 127; writes_nothing; complains_of 'nowhere'
 when_shell_runs 'diff -r fits/release tree/release'; ends_with 0; writes_nothing; says_nothing
+
+# A release for one target has no file of another one.
+given_built_tree built
+when_shell_runs 'tree/tools/release x86_64-linux && cd tree/release && find . ! -type d | sort'; ends_with 0; prints './SUMS\n./bibkeep-x86_64-linux\n./bibkeep-x86_64-linux.whl\n./library-x86_64-linux/bibkeep.h\n./library-x86_64-linux/bibkeep.pc\n./library-x86_64-linux/libbibkeep.a\n./library-x86_64-linux/libbibkeep.so\n./library-x86_64-linux/libbibkeep.so.0\n'; says_nothing
+when_shell_runs 'tree/tools/release wasm && cd tree/release && find . ! -type d | sort'; ends_with 0; prints './SUMS\n./bibkeep.wasm\n'; says_nothing

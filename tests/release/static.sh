@@ -2,30 +2,10 @@
 # line says so.
 # shellcheck shell=sh
 
-left_out() { echo "release: left out: $1"; }
-
-# Runs a command that ends as tests/program does, and adds its counts.
-add_cases_of() {
-    count_case
-    "$@" | tee seen/program
-    counts=$(tail -n 1 seen/program | sed -n 's/^\([0-9]*\) passed, \([0-9]*\) failed$/\1 \2/p')
-    counts=${counts:-0 1}
-    passed=$((passed + ${counts% *}))
-    failed=$((failed + ${counts#* }))
-}
-
 # ---- both programs
 
 # Whether tools/static made a program for a target, as it says.
 is_linked() { grep -q "^program $1 " linked; }
-
-# Sets `emulator` to what runs programs for a target on this machine, if anything does.
-is_runnable() {
-    emulator=
-    if [ "$1" != "$(uname -m)-linux" ]; then
-        emulator=$(command -v "qemu-${1%-linux}-static")
-    fi
-}
 
 # A root folder with the program and a file, and what runs it here, and nothing else.
 given_empty_root() {
@@ -71,7 +51,8 @@ given_bare_root() {
     for name in null zero full; do cp -a "/dev/$name" bare/dev; done
     (cd "$root" && find bibkeep install tools man completions docs README.md HANDLES crates crates.txt tests/program -name out -prune -o -type f -print | tar -cf - -T -) | tar -xf - -C bare/tree
     cp "bibkeep-$1" bare/tree/release
-    { cat linked && echo 'toolchain any' && "$root/tools/sources"; } >bare/tree/release/SUMS
+    if has_library "$1"; then cp -R "$root/crates/bib_c/out/release/library-$1" bare/tree/release; fi
+    { cat linked made_libraries && echo 'toolchain any' && "$root/tools/sources"; } >bare/tree/release/SUMS
     chmod -R go+rX bare/tree
     cp row.bib bare
 }
@@ -90,7 +71,6 @@ runs_beside_busybox() {
 
 # ---- all of it
 
-kit=$(dirname -- "$("$toolchain" doc)")
 busybox=$(command -v busybox) || left_out 'a root with BusyBox alone: there is no BusyBox'
 chroot=
 if [ "$(id -u)" -eq 0 ] && chroot / true 2>/dev/null; then chroot=chroot; else left_out 'roots with nothing or BusyBox alone: only root can change its root'; fi

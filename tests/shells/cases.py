@@ -113,7 +113,17 @@ CASES = [
     ("bibkeep cite one.bib --aux pa\t", ["bibkeep", "cite", "one.bib", "--aux", "paper.aux"]),
     ("bibkeep extract one.bib --aux q\t", ["bibkeep", "extract", "one.bib", "--aux", "q`id>pwned`.aux"]),
     ("bibkeep labels --aux paper.aux on\t", ["bibkeep", "labels", "--aux", "paper.aux", "one.bib"]),
+    ("bibkeep lint one.bib --aux pa\t", ["bibkeep", "lint", "one.bib", "--aux", "paper.aux"]),
     ("bibkeep json --aux paper.aux keys.bib x\t", ["bibkeep", "json", "--aux", "paper.aux", "keys.bib", "x$(id>pwned)"]),
+    # files that are read before and after the first, and what comes after them
+    ("bibkeep check one.bib --bef\t", ["bibkeep", "check", "one.bib", "--before"]),
+    ("bibkeep names --aft\t", ["bibkeep", "names", "--after"]),
+    ("bibkeep check one.bib --before ke\t", ["bibkeep", "check", "one.bib", "--before", "keys.bib"]),
+    ("bibkeep lint one.bib --after \\`\t", ["bibkeep", "lint", "one.bib", "--after", "`id>pwned`.bib"]),
+    ("bibkeep check one.bib --before fold\\ er/i\t", ["bibkeep", "check", "one.bib", "--before", "fold er/in.bib"]),
+    ("bibkeep show --before one.bib --after one.bib keys.bib x\t", ["bibkeep", "show", "--before", "one.bib", "--after", "one.bib", "keys.bib", "x$(id>pwned)"]),
+    ("bibkeep cite keys.bib --after one.bib a:b:c x\t", ["bibkeep", "cite", "keys.bib", "--after", "one.bib", "a:b:c", "x$(id>pwned)"]),
+    ("bibkeep lint --ignore no-key ke\t", ["bibkeep", "lint", "--ignore", "no-key", "keys.bib"]),
     # keys of files whatever their names are
     ("bibkeep show s\\ p\\'a\\\"ce.bib ke\t", ["bibkeep", "show", "s p'a\"ce.bib", "key1"]),
     ("bibkeep show '`id>pwned`.bib' ke\t", ["bibkeep", "show", "`id>pwned`.bib", "key1"]),

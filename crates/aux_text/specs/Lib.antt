@@ -1,1 +1,2 @@
 pub mod Citations
+pub mod Placing

@@ -10,7 +10,7 @@ use bib_text::{Seq, Text, copied};
 use std::alloc::{AllocError, Global};
 
 /// How a line of citations begins.
-const CITATION: &[u8] = b"\\citation{";
+pub(crate) const CITATION: &[u8] = b"\\citation{";
 /// How a line that names a further aux file begins.
 const INPUT: &[u8] = b"\\@input{";
 

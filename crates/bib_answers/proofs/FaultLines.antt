@@ -14,6 +14,7 @@ use Rattle.bib_answers.specs.Positions.{position_of}
 use Rattle.bib_answers.specs.Lint.{error_line, fault_line, fault_lines, name_at, place_at, IsFaultAnswer, IsLintAnswer, reading, other, faulty, refused}
 use Rattle.bib_answers.specs.declared.answers.Answer.{Answer}
 use Rattle.bib_shelf.specs.Joined.{AreJoined}
+use Rattle.aux_text.specs.declared.placing.AuxKeys.{AuxKeys}
 
 -- the line of a fault as it is reported
 abbrev pub told_line : Text → Text → ReadFault → Text
@@ -59,11 +60,11 @@ short_file file kind place is_not low (inl fault) = of_read kind place fault low
 short_file file kind place is_not low (inr fault) = fault.short
 
 -- what is answered to a file that is not opened for a fault
-pub fault_answer : (ignored : List Text) (name file : Text) (fault : ReadFault) (answer : Answer) → (fault.kind == 10) ≡ false → IsOpenFault file fault.kind fault.place
-    → IsFaultAnswer name file fault.kind fault.place answer → IsLintAnswer ignored name file answer
-fault_answer ignored name file fault answer told why (reading low faults are is) =
+pub fault_answer : (ignored : List Text) (cited : List AuxKeys) (name file : Text) (fault : ReadFault) (answer : Answer) → (fault.kind == 10) ≡ false → IsOpenFault file fault.kind fault.place
+    → IsFaultAnswer name file fault.kind fault.place answer → IsLintAnswer ignored cited name file answer
+fault_answer ignored cited name file fault answer told why (reading low faults are is) =
     faulty (short_file file fault.kind fault.place told low why) (no_reading file fault.kind fault.place told low why) faults are is
-fault_answer ignored name file fault answer told why (other past is) = refused fault.kind fault.place (no_memory fault.kind told) past why is
+fault_answer ignored cited name file fault answer told why (other past is) = refused fault.kind fault.place (no_memory fault.kind told) past why is
 
 -- one file in a text
 pub alone_joined : (file : Text) → AreJoined (file ∷ []) (record { text = file; spans = (0, length file) ∷ [] })

@@ -12,6 +12,8 @@ pub mod ReportSteps
 pub mod PositionSteps
 pub mod FindingSteps
 pub mod ItemFindings
+pub mod ToldKeys
+pub mod MissingKeys
 pub mod PlainTexts
 -- ---- cited lists, labels and names
 pub mod AnyOf
@@ -22,3 +24,7 @@ pub mod NameLines
 pub mod JsonLines
 pub mod StandingEntries
 pub mod LineLists
+-- ---- entries as they are written
+pub mod WrittenFields
+pub mod StandingItems
+pub mod RawLines

@@ -44,10 +44,18 @@ is_told_in_utf8 one = is_told_utf8_in one.0 one.1
 abbrev pub not_utf8_line : Text → Text
 not_utf8_line key = codes "bibkeep: 24 NotUtf8 in " ++ (key ++ codes "\n")
 
+-- a line for each of these entries; or, with nothing written, the key of the first with a text that is not UTF-8
+abbrev pub lines_answer : {T : Type 0} → (T → Bool) → (T → Text) → (T → Text) → List T → Answer
+lines_answer is_utf8 key line told =
+    option_map_or (λ one. answer_of [] (not_utf8_line (key one)) 1) (find (λ one. not (is_utf8 one)) told) (answer_of (flat_map line told) [] 0)
+
+-- the key of an entry
+abbrev pub told_key : ToldIn → Text
+told_key one = one.0.0.key
+
 -- a line for each entry; or, with nothing written, the key of the first entry with a text that is not UTF-8
 abbrev pub told_answer : List ToldIn → Answer
-told_answer told =
-    option_map_or (λ one. answer_of [] (not_utf8_line one.0.0.key) 1) (find (λ one. not (is_told_in_utf8 one)) told) (answer_of (flat_map told_line told) [] 0)
+told_answer = lines_answer is_told_in_utf8 told_key told_line
 
 -- the name of the file in which entry n stands, if these files were read as one
 abbrev pub file_of : Option NamedFiles → Reading → ℕ → Option Text
@@ -56,10 +64,6 @@ file_of (Some f) db n = Some (option_map_or (λ i. name_at f.names f.files (star
 
 -- the entries that the keys cite, with their records at this depth, each with the name of its file if files were read as one; or that
 -- a key finds none
-abbrev pub json_answer_in : Option NamedFiles → ℕ → List Text → Reading → Answer
-json_answer_in files depth keys db =
+abbrev pub records_answer_in : Option NamedFiles → ℕ → List Text → Reading → Answer
+records_answer_in files depth keys db =
     option_map_or (λ list. told_answer (told_of depth (entries_of db) (file_of files db) list)) (all_cited (entries_of db) keys) (answer_of [] no_such_entry_line 1)
-
--- `json F KEY..`
-abbrev pub json_answer : ℕ → List Text → Reading → Answer
-json_answer = json_answer_in None

@@ -22,6 +22,8 @@ pub mod Warnings
 pub mod Lint
 pub mod FindingLines
 pub mod LintedThrough
+pub mod Told
 pub mod Json
 pub mod Entry
 pub mod NamedFiles
+pub mod Raw

@@ -1,5 +1,5 @@
 -- `lint`: what is wrong with a file, as compilers write it: a line for each finding, with its position.
-use Rattle.std.specs.Prelude.{ℕ, ◌≡◌, ◌≢◌, ◌<◌, ◌≤◌, Bool, false, ◌==◌, ◌+◌, bytes_eq, nat_lt, List, [], ◌∷◌, ◌++◌, length, map, Option, None, Some, is_none, if◌then◌else◌, option_and_then, slice_get, slice_index_or, codes, zip, ◌&&◌}
+use Rattle.std.specs.Prelude.{ℕ, ◌≡◌, ◌≢◌, ◌<◌, ◌≤◌, Bool, true, false, ◌==◌, ◌+◌, bytes_eq, nat_lt, List, [], ◌∷◌, ◌++◌, length, map, filter, not, Option, None, Some, is_none, if◌then◌else◌, option_and_then, slice_get, slice_index_or, codes, zip, ◌&&◌}
 use Rattle.std.specs.Fmt.{decimal}
 use Rattle.std.specs.List.{flat_map, list_any, range_with_len}
 use Rattle.std.specs.Option.{option_map_or}
@@ -15,7 +15,7 @@ use Rattle.bib_strays.specs.Strays.{Stray, strays_in}
 use Rattle.bib_strays.specs.declared.lines.StrayKind.{StrayKind}
 use Rattle.bib_strays.specs.declared.lines.StrayKind.TheVariants as stray
 use Rattle.bib_spec.specs.Texts.{Macros, months, macros_at, is_empty, parts_of, raw_text, field_text, Opens}
-use Rattle.bib_spec.specs.Records.{EntryTexts, entries_of, crossref, crossref_text, target, parent, other_than, is_repeated}
+use Rattle.bib_spec.specs.Records.{EntryTexts, entries_of, entry_named, crossref, crossref_text, target, parent, other_than, is_repeated}
 use Rattle.bib_scan.specs.Layout.{start_of}
 use Rattle.bib_scan.specs.ValueParts.{spans_of, span_start}
 use Rattle.bib_scan.specs.View.{Field, fields_of, kind_of, head_of, key_of, key_place}
@@ -24,6 +24,8 @@ use Rattle.bib_scan.specs.declared.view.Kind.TheVariants as kind
 use Rattle.bib_value.specs.Macros.{is_own}
 use Rattle.bib_definitions.specs.Definitions.{first_definition}
 use Rattle.bib_store.specs.Readings.{IsOpenFault}
+use Rattle.aux_text.specs.declared.placing.CitedKey.{CitedKey}
+use Rattle.aux_text.specs.declared.placing.AuxKeys.{AuxKeys}
 use Rattle.bib_shelf.specs.Joined.{located_in}
 use Rattle.bib_answers.specs.declared.answers.Answer.{Answer}
 use Rattle.bib_answers.specs.declared.positions.Position.{Position}
@@ -31,10 +33,10 @@ use Rattle.bib_answers.specs.Check.{Assigned, assigned, defined_in, entries_befo
 use Rattle.bib_answers.specs.Entries.{key_at}
 use Rattle.bib_answers.specs.Messages.{fault_name}
 use Rattle.bib_answers.specs.declared.warnings.Warning.{Warning}
-use Rattle.bib_answers.specs.declared.warnings.Warning.TheVariants.{UndefinedMacro, OwnMacro, RepeatedField, RepeatedKey, NoKey, OddKey, MissingParent, OwnParent, EarlyParent, NestedParent, ConflictMarker, LostEntry, LoneBrace, RepeatedMacro, ManyCommas, EmptyCrossref, FieldNotUtf8, KeyNotUtf8, TypeNotUtf8}
+use Rattle.bib_answers.specs.declared.warnings.Warning.TheVariants.{UndefinedMacro, OwnMacro, RepeatedField, RepeatedKey, NoKey, OddKey, MissingParent, OwnParent, EarlyParent, NestedParent, ConflictMarker, LostEntry, LoneBrace, RepeatedMacro, ManyCommas, EmptyCrossref, FieldNotUtf8, KeyNotUtf8, TypeNotUtf8, MissingKey}
 use Rattle.bib_answers.specs.Warnings.{code_of, words_before, words_after}
 use Rattle.bib_answers.specs.Outcome.{answer_of}
-use Rattle.bib_answers.specs.Positions.{position_of}
+use Rattle.bib_answers.specs.Positions.{position, position_of}
 
 -- ---- findings
 
@@ -167,10 +169,25 @@ field_encoding_findings field text = if is_utf8 field.name && is_utf8 text then 
 abbrev pub text_findings : Field → Text → List Finding
 text_findings field text = (if has_names field.name then refused_findings field.value_at text else []) ++ field_encoding_findings field text
 
+-- the part is a use of a macro
+abbrev pub is_use : Part → Bool
+is_use (Macro name) = true
+is_use (Braced t) = false
+is_use (Quoted t) = false
+is_use (Digits t) = false
+
+-- the value uses a macro
+abbrev pub has_uses : Value → Bool
+has_uses v = list_any is_use (parts_of v)
+
+-- the findings in a field with this value, if it uses no macro: the text of a macro is not looked through at each of its uses
+abbrev pub own_findings : Macros → Field → Value → List Finding
+own_findings macros field v = if has_uses v then [] else text_findings field (field_text (raw_text macros v))
+
 -- the findings in the first field of a name of an entry, of whose crossref these are the findings
 abbrev pub entry_field_findings : Macros → (ℕ → List Finding) → Field → Value → List Finding
 entry_field_findings macros crossrefs field v =
-    if same field.name crossref then crossrefs field.value_at else text_findings field (field_text (raw_text macros v))
+    if same field.name crossref then crossrefs field.value_at else own_findings macros field v
 
 -- one of the items before item n defines the macro
 abbrev pub is_defined_before : List Item → ℕ → Text → Bool
@@ -285,17 +302,58 @@ front_lines ignored names files db = flat_map (finding_line ignored names files 
 abbrev pub lint_lines : List Text → List Text → List Text → Reading → Text
 lint_lines ignored names files db = front_lines ignored names files db ++ flat_map (item_lines ignored names files db) (range_with_len 0 (length db.items))
 
+-- ---- keys that aux files cite
+
+-- a key that an aux file cites: the name of the file, and the key with its place
+abbrev pub Citation : Type 0
+Citation = Text × CitedKey
+
+-- the keys that an aux file cites, in order
+abbrev pub citations_in : AuxKeys → List Citation
+citations_in aux = map (λ cited. (aux.file, cited)) aux.keys
+
+-- the keys that these aux files cite, in order
+abbrev pub citations : List AuxKeys → List Citation
+citations files = flat_map citations_in files
+
+-- no entry has the key
+abbrev pub is_missing : List EntryTexts → Citation → Bool
+is_missing entries cited = is_none (entry_named entries cited.1.key)
+
+-- each key once, at its first place in the list; the case of ASCII letters does not count
+abbrev pub first_citations : List Citation → List Citation
+first_citations [] = []
+first_citations (cited ∷ more) = cited ∷ filter (λ other. not (same other.1.key cited.1.key)) (first_citations more)
+
+-- the keys among these citations that no entry has, each once, where it is cited first
+abbrev pub missing_among : List EntryTexts → List Citation → List Citation
+missing_among entries cited = first_citations (filter (is_missing entries) cited)
+
+-- the line of a key that no entry has
+abbrev pub missing_line : Citation → Text
+missing_line cited = warning_line cited.0 (position cited.1.line cited.1.column) MissingKey cited.1.key
+
+-- the lines of the keys that these aux files cite and no entry has, if the code of these findings is not ignored
+abbrev pub missing_lines : List Text → List EntryTexts → List AuxKeys → Text
+missing_lines ignored entries files = if is_ignored ignored MissingKey then [] else flat_map missing_line (missing_among entries (citations files))
+
+-- ---- answers
+
 -- the status is 1 where something is found
 abbrev pub lint_status : Text → ℕ
 lint_status lines = if is_empty lines then 0 else 1
 
--- `lint` for valid files that were read as one: the lines, and the status that goes with them
-abbrev pub files_answer : List Text → List Text → List Text → Reading → Answer
-files_answer ignored names files db = answer_of (lint_lines ignored names files db) [] (lint_status (lint_lines ignored names files db))
+-- the lines of all that is found: in the files, and then of the keys that aux files cite
+abbrev pub found_lines : List Text → List AuxKeys → List Text → List Text → Reading → Text
+found_lines ignored cited names files db = lint_lines ignored names files db ++ missing_lines ignored (entries_of db) cited
 
--- `lint F` for a valid file (dialect)
-abbrev pub lint_answer : List Text → Text → Text → Reading → Answer
-lint_answer ignored name file db = files_answer ignored (name ∷ []) (file ∷ []) db
+-- `lint` for valid files that were read as one: the lines, and the status that goes with them
+abbrev pub files_answer : List Text → List AuxKeys → List Text → List Text → Reading → Answer
+files_answer ignored cited names files db = answer_of (found_lines ignored cited names files db) [] (lint_status (found_lines ignored cited names files db))
+
+-- `lint F` for a valid file and the keys that aux files cite (dialect)
+abbrev pub lint_answer : List Text → List AuxKeys → Text → Text → Reading → Answer
+lint_answer ignored cited name file db = files_answer ignored cited (name ∷ []) (file ∷ []) db
 
 -- `name:line:column: error: N Name`, a line
 abbrev pub error_line : Text → Position → ℕ → Text
@@ -316,11 +374,11 @@ pub data IsFaultAnswer (name file : Text) (kind place : ℕ) (answer : Answer) :
       → IsFaultAnswer name file kind place answer
   other : 7 < kind → answer ≡ answer_of (error_line name (position_of file place) kind) [] 1 → IsFaultAnswer name file kind place answer
 
--- `lint F`, where F has this name and these bytes: the findings whose codes are not ignored; or each fault of reading; or the one fault for which a file
--- that has none is not opened (dialect)
-pub data IsLintAnswer (ignored : List Text) (name file : Text) (answer : Answer) : Type 0 where
-  opened : (db : Reading) → Opens file db → answer ≡ lint_answer ignored name file db → IsLintAnswer ignored name file answer
+-- `lint F --aux AUX`, where F has this name and these bytes, and the aux files cite these keys: the findings whose codes are not ignored; or each
+-- fault of reading; or the one fault for which a file that has none is not opened (dialect)
+pub data IsLintAnswer (ignored : List Text) (cited : List AuxKeys) (name file : Text) (answer : Answer) : Type 0 where
+  opened : (db : Reading) → Opens file db → answer ≡ lint_answer ignored cited name file db → IsLintAnswer ignored cited name file answer
   faulty : length file ≤ file_limit → (HasReading file → ⊥) → (faults : List Fault) → Faults file faults → answer ≡ answer_of (fault_lines name file faults) [] 1
-      → IsLintAnswer ignored name file answer
+      → IsLintAnswer ignored cited name file answer
   refused : (kind place : ℕ) → kind ≢ 10 → 7 < kind → IsOpenFault file kind place → answer ≡ answer_of (error_line name (position_of file place) kind) [] 1
-      → IsLintAnswer ignored name file answer
+      → IsLintAnswer ignored cited name file answer

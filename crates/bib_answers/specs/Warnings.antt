@@ -2,7 +2,7 @@
 use Rattle.std.specs.Prelude.{codes}
 use Rattle.bib_spec.specs.Text.{Text}
 use Rattle.bib_answers.specs.declared.warnings.Warning.{Warning}
-use Rattle.bib_answers.specs.declared.warnings.Warning.TheVariants.{UndefinedMacro, OwnMacro, RepeatedField, RepeatedKey, NoKey, OddKey, MissingParent, OwnParent, EarlyParent, NestedParent, ConflictMarker, LostEntry, LoneBrace, RepeatedMacro, ManyCommas, EmptyCrossref, FieldNotUtf8, KeyNotUtf8, TypeNotUtf8}
+use Rattle.bib_answers.specs.declared.warnings.Warning.TheVariants.{UndefinedMacro, OwnMacro, RepeatedField, RepeatedKey, NoKey, OddKey, MissingParent, OwnParent, EarlyParent, NestedParent, ConflictMarker, LostEntry, LoneBrace, RepeatedMacro, ManyCommas, EmptyCrossref, FieldNotUtf8, KeyNotUtf8, TypeNotUtf8, MissingKey}
 
 -- the code of a kind of finding
 abbrev pub code_of : Warning → Text
@@ -25,6 +25,7 @@ code_of EmptyCrossref = codes "empty-crossref"
 code_of FieldNotUtf8 = codes "not-utf8"
 code_of KeyNotUtf8 = codes "not-utf8"
 code_of TypeNotUtf8 = codes "not-utf8"
+code_of MissingKey = codes "missing-key"
 
 -- what a line says before the name, key or text that is found
 abbrev pub words_before : Warning → Text
@@ -47,6 +48,7 @@ words_before EmptyCrossref = codes "the crossref of "
 words_before FieldNotUtf8 = codes "field "
 words_before KeyNotUtf8 = codes "key "
 words_before TypeNotUtf8 = codes "type "
+words_before MissingKey = codes "key "
 
 -- what a line says after the name, key or text that is found
 abbrev pub words_after : Warning → Text
@@ -69,3 +71,4 @@ words_after EmptyCrossref = codes " is empty and an entry has no key"
 words_after FieldNotUtf8 = codes " is not UTF-8: 24 NotUtf8"
 words_after KeyNotUtf8 = codes " is not UTF-8: 24 NotUtf8"
 words_after TypeNotUtf8 = codes " is not UTF-8: 24 NotUtf8"
+words_after MissingKey = codes " is cited and no entry has it"

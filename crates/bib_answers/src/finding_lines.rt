@@ -64,7 +64,7 @@ impl<'a> FindingLines<'a> {
     }
 
     /// Adds the line of a finding `more` bytes after a place in the item, about this name, key or text. If its code is ignored,
-    /// nothing is added.
+    /// nothing is added. A place that is past every count is refused like want of memory: no text in memory has one.
     pub fn add_after(
         &mut self,
         kind: Warning,
@@ -77,7 +77,6 @@ impl<'a> FindingLines<'a> {
         if is_ignored(self.ignored, kind) {
             return Ok(());
         }
-        // no text in memory has a place that is past every count
         let Some(place) = place_after(self.start, at, more) else {
             return Err(AllocError);
         };
@@ -132,7 +131,7 @@ fn place_after(start: usize, at: usize, more: usize) -> Option<usize>
 }
 
 /// Adds the line of a finding at this position, about this name, key or text.
-fn add_warning(
+pub fn add_warning(
     out: &mut Vec<u8>,
     file: &[u8],
     at: Position,
@@ -151,7 +150,7 @@ fn add_warning(
 }
 
 /// Whether the code of this kind is among those that are ignored.
-fn is_ignored(ignored: &[Text], kind: Warning) -> bool
+pub fn is_ignored(ignored: &[Text], kind: Warning) -> bool
     ensures { result ≡ is_ignored ignored.now kind }
 {
     let code = kind.code().as_bytes();

@@ -27,7 +27,7 @@ use crate::kinds::is_same_kind;
 use crate::numbered::NumberedItem;
 use crate::reporting::{defined_in, is_own, is_repeated};
 use crate::seen_names::SeenNames;
-use crate::text_findings::{add_text_findings, is_utf8};
+use crate::text_findings::{add_own_findings, is_utf8};
 use crate::warnings::Warning;
 use bib_scan::{
     FieldView, ItemView, Kind, Part, Parts, is_key, only_part, read_value, same_folded,
@@ -436,7 +436,7 @@ fn add_entry_field<M: MacroTable>(
     if same_folded(field.name, b"crossref") {
         return add_crossref(lines, field.value_at, crossref);
     }
-    add_text_findings(alloc, lines, macros, field)
+    add_own_findings(alloc, lines, macros, field)
 }
 
 /// Adds that the field of a definition defines a macro again, if it does.

@@ -7,7 +7,8 @@ ghost use Rattle.bib_store.specs.Readings.{OfReading, IsEntryNumber};
 ghost use Rattle.entry_json.specs.EntryJson.{Told, json_line_in, is_told_utf8_in};
 ghost use Rattle.entry_json.specs.declared.fault.JsonFault.TheVariants.{Memory};
 ghost use Rattle.bib_answers.specs.Entries.{key_at};
-ghost use Rattle.bib_answers.specs.Json.{ToldIn, told_in, told_line, is_told_in_utf8, told_of, file_of, not_utf8_line, told_answer, json_answer, json_answer_in};
+ghost use Rattle.bib_answers.specs.Json.{ToldIn, told_in, told_line, is_told_in_utf8, told_of, file_of, not_utf8_line, told_answer, records_answer_in};
+ghost use Rattle.bib_answers.specs.Raw.{json_answer, json_answer_in};
 ghost use Rattle.bib_answers.specs.Marks.{AreEntryNumbers};
 ghost use Rattle.bib_answers.specs.Opened.{AnswersFile};
 ghost use Rattle.bib_answers.specs.Outcome.{answer_of};
@@ -17,27 +18,48 @@ use crate::citing::all_cited;
 use crate::lines::add_all;
 use crate::named_files::NamedFiles;
 use crate::opening::answer_file;
+use crate::raw::raw_in;
 use bib_scan::Text;
 use bib_store::{Database, Paged};
 use entry_json::{JsonFault, add_line_in};
 use std::alloc::{AllocError, Global};
 
-/// The entries that the keys cite, with their records at this depth; or that a key finds none, or that a text is not UTF-8.
+/// The entries that the keys cite, with their records at this depth, or with their fields as they are written if `raw`; or that a key
+/// finds none, or that a text is not UTF-8.
 pub fn answer_json(
     alloc: Global,
     file: Vec<u8>,
     keys: &[Text],
     depth: u8,
+    raw: bool,
 ) -> Result<Answer, AllocError>
     requires { IsDepth depth }
-    ensures { IfOk result (AnswersFile (json_answer depth keys.now) file.items) }
+    ensures { IfOk result (AnswersFile (json_answer raw depth keys.now) file.items) }
 {
-    answer_file(alloc, file, |db| json_in(alloc, db, None, keys, depth))
+    answer_file(alloc, file, |db| json_in(alloc, db, None, keys, depth, raw))
 }
 
 /// What `answer_json` answers, for a file that is open; or for files that are open as one, each entry with the name of its file. It
-/// takes time and memory for the records of the entries that the keys cite.
+/// takes time and memory for what is told of the entries that the keys cite, and with `raw` for where each item of the file stands.
 pub fn json_in(
+    alloc: Global,
+    db: &Database<Paged>,
+    files: Option<&NamedFiles<'_>>,
+    keys: &[Text],
+    depth: u8,
+    raw: bool,
+) -> Result<Answer, AllocError>
+    requires { IsDepth depth }
+    ensures { IfOk result (λ answer. OfReading db.now (λ r. answer ≡ json_answer_in raw (option_copied files.entry) depth keys.now r)) }
+{
+    if raw {
+        return raw_in(alloc, db, files, keys, depth);
+    }
+    records_in(alloc, db, files, keys, depth)
+}
+
+/// The entries that the keys cite, with their records at this depth.
+fn records_in(
     alloc: Global,
     db: &Database<Paged>,
     files: Option<&NamedFiles<'_>>,
@@ -45,7 +67,7 @@ pub fn json_in(
     depth: u8,
 ) -> Result<Answer, AllocError>
     requires { IsDepth depth }
-    ensures { IfOk result (λ answer. OfReading db.now (λ r. answer ≡ json_answer_in (option_copied files.entry) depth keys.now r)) }
+    ensures { IfOk result (λ answer. OfReading db.now (λ r. answer ≡ records_answer_in (option_copied files.entry) depth keys.now r)) }
 {
     match all_cited(db, keys)? {
         Some(list) => lines_of(alloc, db, files, list.as_slice(), depth),
@@ -77,7 +99,7 @@ fn lines_of(
 }
 
 /// Nothing is output, and the message says in which entry a text is not UTF-8.
-fn not_utf8(alloc: Global, key: &[u8]) -> Result<Answer, AllocError>
+pub(crate) fn not_utf8(alloc: Global, key: &[u8]) -> Result<Answer, AllocError>
     ensures { IfOk result (λ answer. answer ≡ answer_of [] (not_utf8_line key.now) 1) }
 {
     let mut message = Vec::new(alloc);
@@ -106,7 +128,11 @@ fn with_entry(
 }
 
 /// The name of the file in which entry `n` stands, if these files were read as one.
-fn file_of<'a>(files: Option<&NamedFiles<'a>>, db: &Database<Paged>, n: usize) -> Option<&'a [u8]>
+pub(crate) fn file_of<'a>(
+    files: Option<&NamedFiles<'a>>,
+    db: &Database<Paged>,
+    n: usize,
+) -> Option<&'a [u8]>
     requires { IsEntryNumber db.now n }
     ensures { OfReading db.now (λ r. option_copied result ≡ file_of (option_copied files.entry) r n) }
 {
@@ -115,7 +141,7 @@ fn file_of<'a>(files: Option<&NamedFiles<'a>>, db: &Database<Paged>, n: usize) -
 }
 
 /// The key of an entry, if there is one.
-fn key_of(db: &Database<Paged>, n: Option<usize>) -> Option<&[u8]>
+pub(crate) fn key_of(db: &Database<Paged>, n: Option<usize>) -> Option<&[u8]>
     requires { IfSome n (IsEntryNumber db.now) }
     ensures { OfReading db.now (λ r. option_copied result ≡ option_map (key_at (entries_of r)) n) }
 {

@@ -3,6 +3,7 @@
 ghost use Rattle.std.specs.Prelude.{◌≡◌, ◌+◌, ◌<◌, ◌^◌, ℕ, List, [], ◌∷◌, nat_lt, IfOk, OnOk};
 ghost use Rattle.std.specs.List.{flat_map};
 ghost use Rattle.bib_faults.specs.GoingOn.{Fault, Faults};
+ghost use Rattle.aux_text.specs.declared.placing.AuxKeys.{AuxKeys as Cited};
 ghost use Rattle.bib_answers.specs.Lint.{lint_lines, lint_status, lint_answer, files_answer, error_line, fault_lines, IsFaultAnswer, IsLintAnswer};
 ghost use Rattle.bib_answers.specs.LintedThrough.{IsLintedBefore};
 ghost use Rattle.bib_answers.specs.Outcome.{answer_of};
@@ -16,9 +17,11 @@ use crate::finding_lines::FindingLines;
 use crate::findings::add_item_findings;
 use crate::gap_findings::add_gap_findings;
 use crate::kinds::is_same_kind;
+use crate::missing_keys::add_missing_keys;
 use crate::named_files::NamedFiles;
 use crate::numbered::NumberedItem;
 use crate::seen_names::SeenNames;
+use aux_text::AuxKeys;
 use bib_faults::read_all;
 use bib_scan::{Kind, ReadFault, Text, copied};
 use bib_store::{Database, Paged};
@@ -28,18 +31,20 @@ use std::alloc::{AllocError, Global};
 /// The last of the faults of reading, by number: faults with a greater number are of files that are valid or too long.
 const LAST_OF_READING: u8 = 7;
 
-/// What is wrong with the file that has this name and these bytes, or each place where it is not valid. Findings with one of the
-/// ignored codes are left out; a code that no finding has changes nothing.
+/// What is wrong with the file that has this name and these bytes, and which of the keys that these aux files cite no entry has; or
+/// each place where the file is not valid. Findings with one of the ignored codes are left out; a code that no finding has changes
+/// nothing.
 pub fn answer_lint(
     alloc: Global,
     name: &[u8],
     file: &[u8],
     ignored: &[Text],
+    cited: &[AuxKeys],
 ) -> Result<Answer, AllocError>
-    ensures { IfOk result (IsLintAnswer ignored.now name.now file.now) }
+    ensures { IfOk result (IsLintAnswer ignored.now cited.now name.now file.now) }
 {
     match Database::open_bytes(alloc, file, Paged::new(alloc)) {
-        Ok(db) => lint_alone(alloc, &db, name, file, ignored),
+        Ok(db) => lint_alone(alloc, &db, name, file, ignored, cited),
         Err(fault) => unread(alloc, name, file, fault),
     }
 }
@@ -55,7 +60,7 @@ fn is_past_reading(fault: ReadFault) -> bool
 /// opened. Want of memory is no answer.
 fn unread(alloc: Global, name: &[u8], file: &[u8], fault: ReadFault) -> Result<Answer, AllocError>
     requires { IsOpenFault file.now fault.kind fault.place }
-    ensures { IfOk result (λ answer. (ignored : List (List ℕ)) → IsLintAnswer ignored name.now file.now answer) }
+    ensures { IfOk result (λ answer. (ignored : List (List ℕ)) (cited : List Cited) → IsLintAnswer ignored cited name.now file.now answer) }
 {
     if fault.is_memory() {
         return Err(AllocError);
@@ -128,20 +133,21 @@ fn status_of(lines: &[u8]) -> u8
     }
 }
 
-/// What is wrong with an open file that has this name and these bytes.
+/// What is wrong with an open file that has this name and these bytes, and which of the keys that are cited no entry has.
 fn lint_alone(
     alloc: Global,
     db: &Database<Paged>,
     name: &[u8],
     file: &[u8],
     ignored: &[Text],
+    cited: &[AuxKeys],
 ) -> Result<Answer, AllocError>
-    ensures { IfOk result (λ answer. OfReading db.now (λ r. answer ≡ lint_answer ignored.now name.now file.now r)) }
+    ensures { IfOk result (λ answer. OfReading db.now (λ r. answer ≡ lint_answer ignored.now cited.now name.now file.now r)) }
 {
     let names = alone(alloc, name)?;
     let spans = [(0, file.len())];
     let files = NamedFiles::new(names.as_slice(), file, &spans);
-    lint_in(alloc, db, &files, ignored)
+    lint_in(alloc, db, &files, ignored, cited)
 }
 
 /// The name, alone in a list.
@@ -153,17 +159,20 @@ fn alone(alloc: Global, name: &[u8]) -> Result<Vec<Text>, AllocError>
     Ok(names)
 }
 
-/// What is wrong with files that are open as one. Findings with one of the ignored codes are left out. It takes time in the length
-/// of the files, and memory for the lines.
+/// What is wrong with files that are open as one, and which of the keys that these aux files cite no entry has. Findings with one
+/// of the ignored codes are left out. It takes time in the length of the files and of the keys, and memory for the lines and the
+/// missing keys.
 pub fn lint_in(
     alloc: Global,
     db: &Database<Paged>,
     files: &NamedFiles<'_>,
     ignored: &[Text],
+    cited: &[AuxKeys],
 ) -> Result<Answer, AllocError>
-    ensures { IfOk result (λ answer. OfReading db.now (λ r. answer ≡ files_answer ignored.now files.now.names files.now.files r)) }
+    ensures { IfOk result (λ answer. OfReading db.now (λ r. answer ≡ files_answer ignored.now cited.now files.now.names files.now.files r)) }
 {
-    let lines = lines_of(alloc, db, files, ignored)?;
+    let mut lines = lines_of(alloc, db, files, ignored)?;
+    add_missing_keys(alloc, &mut lines, db, ignored, cited)?;
     let status = status_of(lines.as_slice());
     Ok(told(alloc, lines, status))
 }

@@ -100,6 +100,7 @@ pub fn reached_at(files: &NamedFiles<'_>, before: Reached, place: usize) -> Reac
     requires { IsKnown (slice_index_or files.now.files before.file []) before.known }
     ensures known { IsKnown (slice_index_or files.now.files result.file []) result.known }
     ensures at { result.known.at ≡ place_at files.now.files place }
+    ensures file { result.file ≡ (located_in files.now.files place).0 }
 {
     let (file, place) = files.locate(place);
     let known = if file == before.file {

@@ -7,22 +7,79 @@ ghost use Rattle.std.specs.Str.{is_utf8};
 ghost use Rattle.bib_spec.specs.Bytes.{name_limit};
 ghost use Rattle.bib_spec.specs.Reading.{IsValueWithin};
 ghost use Rattle.bib_spec.specs.Texts.{raw_text, field_text};
+ghost use Rattle.bib_scan.specs.PartView.{part_view};
+ghost use Rattle.bib_scan.specs.ValueParts.{IsPartsOf};
 ghost use Rattle.bib_scan.specs.View.{Field, field_seen};
 ghost use Rattle.bib_value.specs.Raw.{OfValue};
 ghost use Rattle.bib_persons.specs.Persons.{has_names, refused_names};
-ghost use Rattle.bib_answers.specs.Lint.{refused_findings, field_encoding_findings, text_findings};
+ghost use Rattle.bib_answers.specs.Lint.{is_use, has_uses, refused_findings, field_encoding_findings, text_findings, own_findings};
 ghost use Rattle.bib_answers.specs.FindingLines.{with_findings};
 
 use crate::finding_lines::FindingLines;
 use crate::warnings::Warning;
 use bib_persons::{has_few_commas, has_names, refused_names};
-use bib_scan::{FieldView, Text, only_part, read_value};
+use bib_scan::{FieldView, Part, Parts, Text, only_part, read_value};
 use bib_value::{MacroTable, field_text, part_text, raw_text};
 use std::alloc::{AllocError, Global};
 use std::str;
 
+/// Adds what is found in the text of a field of an entry whose value uses no macro. It takes time in the value's length.
+pub fn add_own_findings<M: MacroTable>(
+    alloc: Global,
+    lines: &mut FindingLines<'_>,
+    macros: &M,
+    field: FieldView<'_>,
+) -> Result<(), AllocError>
+    requires { IsValueWithin name_limit field.value.now }
+    ensures { OnOk result (OfValue field.entry.value.now (λ v. lines.new ≡ with_findings lines.old (own_findings (M.macros macros.now) (field_seen field.entry) v))) }
+{
+    let uses = has_uses(alloc, field.value)?;
+    if uses {
+        return Ok(());
+    }
+    add_text_findings(alloc, lines, macros, field)
+}
+
+/// Whether a value uses a macro.
+fn has_uses(alloc: Global, value: &[u8]) -> Result<bool, AllocError>
+    requires { IsValueWithin name_limit value.now }
+    ensures { IfOk result (λ uses. OfValue value.now (λ v. uses ≡ has_uses v)) }
+{
+    if let Some(part) = only_part(value) {
+        return Ok(is_use(part));
+    }
+    match read_value(alloc, value) {
+        Ok(parts) => Ok(has_use_among(value, &parts)),
+        Err(fault) if fault.is_memory() => Err(AllocError),
+        Err(_) => unreachable!(),
+    }
+}
+
+/// Whether one of these parts of a value is a use of a macro.
+fn has_use_among(value: &[u8], parts: &Parts) -> bool
+    requires { IsPartsOf value.now parts.now }
+    ensures { OfValue value.now (λ v. result ≡ has_uses v) }
+{
+    'uses: for n in 0..parts.len() {
+        if is_use(parts.part(value, n)) {
+            return true;
+        }
+    }
+    false
+}
+
+/// Whether the part is a use of a macro.
+fn is_use(part: Part<'_>) -> bool
+    ensures { result ≡ is_use (part_view part.entry) }
+{
+    match part {
+        Part::Macro(_) => true,
+        _ => false,
+    }
+}
+
 /// Adds what is found in the text of a field of an entry. Most texts are plain, and are not put together.
-pub fn add_text_findings<M: MacroTable>(
+fn add_text_findings<M: MacroTable>(
     alloc: Global,
     lines: &mut FindingLines<'_>,
     macros: &M,

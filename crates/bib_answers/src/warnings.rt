@@ -25,6 +25,7 @@ pub enum Warning {
     FieldNotUtf8,
     KeyNotUtf8,
     TypeNotUtf8,
+    MissingKey,
 }
 
 impl Warning {
@@ -50,6 +51,7 @@ impl Warning {
             Warning::ManyCommas => "refused-name",
             Warning::EmptyCrossref => "empty-crossref",
             Warning::FieldNotUtf8 | Warning::KeyNotUtf8 | Warning::TypeNotUtf8 => "not-utf8",
+            Warning::MissingKey => "missing-key",
         }
     }
 
@@ -60,7 +62,8 @@ impl Warning {
         match self {
             Warning::UndefinedMacro | Warning::OwnMacro | Warning::RepeatedMacro => "macro ",
             Warning::RepeatedField | Warning::FieldNotUtf8 => "field ",
-            Warning::RepeatedKey | Warning::OddKey | Warning::KeyNotUtf8 => "key ",
+            Warning::RepeatedKey | Warning::OddKey | Warning::KeyNotUtf8 | Warning::MissingKey =>
+                "key ",
             Warning::TypeNotUtf8 => "type ",
             Warning::NoKey => "the entry",
             Warning::MissingParent | Warning::OwnParent => "crossref ",
@@ -99,6 +102,7 @@ impl Warning {
             Warning::FieldNotUtf8 | Warning::KeyNotUtf8 | Warning::TypeNotUtf8 => {
                 " is not UTF-8: 24 NotUtf8"
             }
+            Warning::MissingKey => " is cited and no entry has it",
         }
     }
 }

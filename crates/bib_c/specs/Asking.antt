@@ -1,5 +1,5 @@
 -- A command as C gives it. (dialect)
-use Rattle.std.specs.Prelude.{ℕ, List, [], Option, Some, None}
+use Rattle.std.specs.Prelude.{ℕ, false, List, [], Option, Some, None}
 use Rattle.bib_spec.specs.Text.{Text}
 use Rattle.bib_words.specs.declared.commands.Command.{Command}
 use Rattle.bib_c.specs.Words.{words_of}
@@ -13,6 +13,7 @@ command_of name words aux options = record {
   aux = aux;
   before = [];
   after = [];
+  cited = [];
   n = options.n;
   depth = options.depth;
   print = options.print;
@@ -22,6 +23,8 @@ command_of name words aux options = record {
   dropped = options.dropped;
   at = options.at;
   strict = options.strict;
+  latex = false;
+  raw = options.raw;
 }
 
 -- the same of lists that there are

@@ -20,6 +20,7 @@ pub struct Options {
     pub dropped: bool,
     pub at: bool,
     pub strict: bool,
+    pub raw: bool,
 }
 
 /// The command with this name, these arguments and aux files, each as one text and lengths, and these options. There is none if a
@@ -66,6 +67,7 @@ fn command_of(
         aux,
         before: Seq::empty(alloc),
         after: Seq::empty(alloc),
+        cited: Seq::empty(alloc),
         n: options.n,
         depth: options.depth,
         print: options.print,
@@ -75,5 +77,7 @@ fn command_of(
         dropped: options.dropped,
         at: options.at,
         strict: options.strict,
+        latex: false,
+        raw: options.raw,
     }
 }

@@ -26,6 +26,10 @@ needed id = record (new_rule id) { required = true }
 abbrev pub keys : Rule
 keys = record (new_rule (codes "KEY")) { range = Some (record { start_inclusive = 1; end_inclusive = usize_max }) }
 
+-- `KEY..`: one or more
+abbrev pub needed_keys : Rule
+needed_keys = record keys { required = true }
+
 -- `[WORD..]`: none or more
 abbrev pub edit_words : Rule
 edit_words = record (new_rule (codes "WORD")) { range = Some (record { start_inclusive = 1; end_inclusive = usize_max }) }
@@ -33,6 +37,14 @@ edit_words = record (new_rule (codes "WORD")) { range = Some (record { start_inc
 -- `--aux AUX`, any number of times
 abbrev pub aux_files : Rule
 aux_files = record (new_rule (codes "AUX")) { long = Some (codes "aux"); action = Some Append }
+
+-- `--before BEFORE`, any number of times
+abbrev pub files_before : Rule
+files_before = record (new_rule (codes "BEFORE")) { long = Some (codes "before"); action = Some Append; value_names = 1 }
+
+-- `--after AFTER`, any number of times
+abbrev pub files_after : Rule
+files_after = record (new_rule (codes "AFTER")) { long = Some (codes "after"); action = Some Append; value_names = 1 }
 
 -- `--NAME`: an option that is given or not
 abbrev pub switch : Text → Rule
@@ -64,41 +76,53 @@ levels = record (new_rule (codes "D")) {
 abbrev pub over_file : Text → App
 over_file name = with_rule (new_app name) (needed (codes "F"))
 
+-- a command over a file that reads other files too: `NAME F [--before FILE].. [--after FILE]..`
+abbrev pub over_files : Text → App
+over_files name = with_rule (with_rule (over_file name) files_before) files_after
+
 -- `cat [F]`
 abbrev pub cat_line : App
 cat_line = with_rule (new_app (codes "cat")) any_file
 
--- `lint F [--ignore CODE]..`
+-- `check F [--before FILE].. [--after FILE]..`
+abbrev pub check_line : App
+check_line = over_files (codes "check")
+
+-- `lint F [--before FILE].. [--after FILE].. [--ignore CODE].. [--aux AUX]..`
 abbrev pub lint_line : App
-lint_line = with_rule (over_file (codes "lint")) ignore
+lint_line = with_rule (with_rule (over_files (codes "lint")) ignore) aux_files
 
--- `show F [--depth D] KEY`
+-- `show F [--before FILE].. [--after FILE].. [--depth D] KEY`
 abbrev pub show_line : App
-show_line = with_rule (with_rule (over_file (codes "show")) (needed (codes "KEY"))) levels
+show_line = with_rule (with_rule (over_files (codes "show")) (needed (codes "KEY"))) levels
 
--- a command over a file with keys, those of aux files among them: `NAME F [--aux AUX].. [KEY..]`
+-- a command over files with keys, those of aux files among them: `NAME F [--before FILE].. [--after FILE].. [--aux AUX].. [KEY..]`
 abbrev pub cited_line : Text → App
-cited_line name = with_rule (with_rule (over_file name) keys) aux_files
+cited_line name = with_rule (with_rule (over_files name) keys) aux_files
 
--- `cite F [--min-crossrefs N] [--aux AUX].. [--strict] [KEY..]`
+-- as above, `cite F [--min-crossrefs N] [--strict] [KEY..]`
 abbrev pub cite_line : App
 cite_line = with_rule (with_rule (cited_line (codes "cite")) (count (codes "min-crossrefs") (codes "2"))) (switch (codes "strict"))
 
 -- `entry F [--at] KEY..`
 abbrev pub entry_line : App
-entry_line = with_rule (with_rule (over_file (codes "entry")) keys) (switch (codes "at"))
+entry_line = with_rule (with_rule (over_file (codes "entry")) needed_keys) (switch (codes "at"))
 
--- `labels F [--depth D] [--aux AUX].. [KEY..]`; the same for `json`
+-- as above, `labels F [--depth D] [KEY..]`
 abbrev pub keys_line : Text → App
 keys_line name = with_rule (cited_line name) levels
 
--- `names F [--depth D] KEY TEMPLATE`
-abbrev pub names_line : App
-names_line = with_rule (with_rule (with_rule (over_file (codes "names")) (needed (codes "KEY"))) (needed (codes "TEMPLATE"))) levels
+-- as above, `json F [--depth D] [--raw] [KEY..]`
+abbrev pub json_line : App
+json_line = with_rule (keys_line (codes "json")) (switch (codes "raw"))
 
--- `newkeys F [--depth D]`
+-- `names F [--before FILE].. [--after FILE].. [--depth D] KEY TEMPLATE`
+abbrev pub names_line : App
+names_line = with_rule (with_rule (with_rule (over_files (codes "names")) (needed (codes "KEY"))) (needed (codes "TEMPLATE"))) levels
+
+-- `newkeys F [--before FILE].. [--after FILE].. [--depth D]`
 abbrev pub newkeys_line : App
-newkeys_line = with_rule (over_file (codes "newkeys")) levels
+newkeys_line = with_rule (over_files (codes "newkeys")) levels
 
 -- the command with the options of one that adds a change to a journal: `[--new-journal] [--no-journal]`
 abbrev pub adding : App → App
@@ -116,13 +140,13 @@ edit_line = with_rule (adding edit_or_print_line) (switch (codes "all-or-nothing
 abbrev pub steps_line : Text → App
 steps_line name = with_rule (with_rule (over_file name) (count (codes "steps") (codes "1"))) (switch (codes "print"))
 
--- `ris F [--depth D] [--dropped] [--aux AUX].. [KEY..]`
+-- as above, `ris F [--depth D] [--dropped] [KEY..]`
 abbrev pub ris_line : App
 ris_line = with_rule (keys_line (codes "ris")) (switch (codes "dropped"))
 
--- `import F [--print] [--new-journal] [--no-journal]`
+-- `import F [--print] [--new-journal] [--no-journal] [--latex]`
 abbrev pub import_line : App
-import_line = adding (with_rule (over_file (codes "import")) (switch (codes "print")))
+import_line = with_rule (adding (with_rule (over_file (codes "import")) (switch (codes "print")))) (switch (codes "latex"))
 
 -- `explain FAULT`
 abbrev pub explain_line : App
@@ -147,11 +171,11 @@ bibkeep_top = on_top (λ s. record s { has_version = true; subcommand_required =
 -- the program with the commands that show what a file says
 abbrev pub bibkeep_shows : App
 bibkeep_shows =
-    adds (adds (adds (adds (adds (adds bibkeep_top cat_line) (over_file (codes "check"))) lint_line) show_line) entry_line) cite_line
+    adds (adds (adds (adds (adds (adds bibkeep_top cat_line) check_line) lint_line) show_line) entry_line) cite_line
 
 -- and with those that make labels, JSON, names or keys of it
 abbrev pub bibkeep_makes : App
-bibkeep_makes = adds (adds (adds (adds bibkeep_shows (keys_line (codes "labels"))) (keys_line (codes "json"))) names_line) newkeys_line
+bibkeep_makes = adds (adds (adds (adds bibkeep_shows (keys_line (codes "labels"))) json_line) names_line) newkeys_line
 
 -- and with those that change a file, and those over its journal
 abbrev pub bibkeep_edits : App
@@ -196,8 +220,9 @@ command_of name rows = record {
   name = name;
   words = words_in rows;
   aux = values (codes "AUX") rows;
-  before = [];
-  after = [];
+  before = values (codes "BEFORE") rows;
+  after = values (codes "AFTER") rows;
+  cited = [];
   n = number rows;
   depth = depth rows;
   print = given (codes "print") rows;
@@ -207,6 +232,8 @@ command_of name rows = record {
   dropped = given (codes "dropped") rows;
   at = given (codes "at") rows;
   strict = given (codes "strict") rows;
+  latex = given (codes "latex") rows;
+  raw = given (codes "raw") rows;
 }
 
 -- the words name this command by clap's exact matching

@@ -2,7 +2,7 @@
 
 ghost use Rattle.std.specs.Prelude.{◌≡◌, false, codes};
 ghost use Rattle.clap.specs.Words.{rule_of};
-ghost use Rattle.bib_command.specs.CommandLine.{any_file, needed, keys, aux_files, edit_words, switch, ignore, count, levels};
+ghost use Rattle.bib_command.specs.CommandLine.{any_file, needed, keys, needed_keys, aux_files, files_before, files_after, edit_words, switch, ignore, count, levels};
 
 use clap::{Arg, ArgAction, value_parser};
 use std::alloc::Global;
@@ -31,15 +31,47 @@ pub fn keys<'a>(alloc: Global) -> Arg<'a>
         .help("The keys of entries, or * alone for all")
 }
 
+/// Keys, at least one.
+pub fn needed_keys<'a>(alloc: Global) -> Arg<'a>
+    ensures rule { rule_of result ≡ needed_keys }
+    ensures local { result.global ≡ false }
+{
+    keys(alloc).required(true)
+}
+
 /// `--aux`, any number of times.
-pub fn aux_files<'a>(alloc: Global) -> Arg<'a>
+pub fn aux_files<'a>(alloc: Global, help: &'a str) -> Arg<'a>
     ensures rule { rule_of result ≡ aux_files }
     ensures local { result.global ≡ false }
 {
     Arg::new(alloc, "AUX")
         .long("aux")
         .action(ArgAction::Append)
-        .help("An aux file of LaTeX; the keys that it cites come after the KEYs")
+        .help(help)
+}
+
+/// `--before`, any number of times.
+pub fn files_before<'a>(alloc: Global) -> Arg<'a>
+    ensures rule { rule_of result ≡ files_before }
+    ensures local { result.global ≡ false }
+{
+    Arg::new(alloc, "BEFORE")
+        .long("before")
+        .value_name("FILE")
+        .action(ArgAction::Append)
+        .help("A BibTeX file that is read before F; may be given several times")
+}
+
+/// `--after`, any number of times.
+pub fn files_after<'a>(alloc: Global) -> Arg<'a>
+    ensures rule { rule_of result ≡ files_after }
+    ensures local { result.global ≡ false }
+{
+    Arg::new(alloc, "AFTER")
+        .long("after")
+        .value_name("FILE")
+        .action(ArgAction::Append)
+        .help("A BibTeX file that is read after F; may be given several times")
 }
 
 /// The words of an edit, if there are any.

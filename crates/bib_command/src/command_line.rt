@@ -3,11 +3,11 @@
 ghost use Rattle.std.specs.Prelude.{◌≡◌, IfOk, codes};
 ghost use Rattle.clap.specs.Words.{App, new_app};
 ghost use Rattle.bib_command.specs.Lines.{Reads};
-ghost use Rattle.bib_command.specs.CommandLine.{adds, over_file, cat_line, lint_line, show_line, cited_line, entry_line, cite_line, edit_or_print_line, keys_line, names_line, newkeys_line, edit_line, steps_line, ris_line, import_line, explain_line, bibkeep_top, bibkeep_shows, bibkeep_makes, bibkeep_edits, bibkeep};
+ghost use Rattle.bib_command.specs.CommandLine.{adds, over_file, over_files, cat_line, check_line, lint_line, show_line, cited_line, entry_line, cite_line, edit_or_print_line, json_line, keys_line, names_line, newkeys_line, edit_line, steps_line, ris_line, import_line, explain_line, bibkeep_top, bibkeep_shows, bibkeep_makes, bibkeep_edits, bibkeep};
 
 use crate::arguments::{
-    any_file, aux_files, count, edit_words, hints, ignore, keys, levels, needed, new_journal,
-    no_journal, print, switch,
+    any_file, aux_files, count, edit_words, files_after, files_before, hints, ignore, keys, levels,
+    needed, needed_keys, new_journal, no_journal, print, switch,
 };
 use clap::Command;
 use std::alloc::{AllocError, Global};
@@ -107,9 +107,9 @@ Examples:
 }
 
 fn check<'a>(alloc: Global) -> Result<Command<'a>, AllocError>
-    ensures { IfOk result (Reads (over_file (codes "check"))) }
+    ensures { IfOk result (Reads check_line) }
 {
-    over_file(
+    over_files(
         alloc,
         "check",
         "Counts what is in a file and reports what looks wrong",
@@ -117,34 +117,45 @@ fn check<'a>(alloc: Global) -> Result<Command<'a>, AllocError>
 It reports repeated entries, extra fields, undefined macros, macros that their own definition uses, and crossrefs that name
 no entry, that name their own entry, or whose parent comes before them. A report is not a refusal: the status is 0.
 
-Example:
-  bibkeep check refs.bib",
+With --before and --after it reads other files too, as a document with \\bibliography{strings,refs} does: the macros of
+earlier files and the entries of all count.
+
+Examples:
+  bibkeep check refs.bib
+  bibkeep check refs.bib --before strings.bib --after parents.bib",
     )
 }
 
 fn lint<'a>(alloc: Global) -> Result<Command<'a>, AllocError>
     ensures { IfOk result (Reads lint_line) }
 {
-    over_file(
+    over_files(
         alloc,
         "lint",
         "Reports what looks wrong, one finding per line with line and column, for editors and hooks",
         "\
 A finding is a line such as `refs.bib:12:5: warning: macro mai is not defined [undefined-macro]`. The column counts bytes
 from 1. The status is 1 if there is a finding, and 0 if there is none. The word in brackets is the finding's code: with
-`--ignore undefined-macro` such lines are left out, and do not count.
+`--ignore undefined-macro` such lines are left out, and do not count. With `--aux` the keys that a document cites and no
+entry has are found too, each with its place in the aux file.
 
 Examples:
   bibkeep lint refs.bib
+  bibkeep lint refs.bib --before strings.bib   # the macros of strings.bib are defined
+  bibkeep lint refs.bib --aux paper.aux
   bibkeep lint refs.bib --ignore undefined-macro --ignore nested-parent",
     )?
-    .arg(ignore(alloc))
+    .arg(ignore(alloc))?
+    .arg(aux_files(
+        alloc,
+        "An aux file of LaTeX; the keys that it cites are looked up",
+    ))
 }
 
 fn show<'a>(alloc: Global) -> Result<Command<'a>, AllocError>
     ensures { IfOk result (Reads show_line) }
 {
-    over_file(
+    over_files(
         alloc,
         "show",
         "Prints an entry as a bibliography style sees it",
@@ -176,7 +187,7 @@ Examples:
   bibkeep entry refs.bib --at knuth86   # first a line: item (from 0), tab, line, tab, column
   bibkeep entry refs.bib '*'            # every entry, without what stands between them",
     )?
-    .arg(keys(alloc))?
+    .arg(needed_keys(alloc))?
     .arg(switch(
         alloc,
         "at",
@@ -226,7 +237,7 @@ Examples:
 }
 
 fn json<'a>(alloc: Global) -> Result<Command<'a>, AllocError>
-    ensures { IfOk result (Reads (keys_line (codes "json"))) }
+    ensures { IfOk result (Reads json_line) }
 {
     over_keys(
         alloc,
@@ -234,17 +245,25 @@ fn json<'a>(alloc: Global) -> Result<Command<'a>, AllocError>
         "Prints the entries that these keys cite as JSON, one line each",
         "\
 Each line is an object with type, key, parent (or null) and fields. The fields are those that `show` prints, in order.
+With --raw each field is an object with name, value (the bytes in the file, delimiters and macros too) and inherited (false,
+or the key of the entry from which it comes), and the entry has item (from 0), line and column too.
 
 Examples:
   bibkeep json refs.bib knuth86 lamport86
-  bibkeep json refs.bib '*' | jq -r .key   # every entry",
-    )
+  bibkeep json refs.bib '*' | jq -r .key   # every entry
+  bibkeep json refs.bib --raw '*' | jq -r 'select(.fields.journal) | .fields.journal.value'",
+    )?
+    .arg(switch(
+        alloc,
+        "raw",
+        "Prints the fields as they are written, and where each entry stands",
+    ))
 }
 
 fn names<'a>(alloc: Global) -> Result<Command<'a>, AllocError>
     ensures { IfOk result (Reads names_line) }
 {
-    over_file(
+    over_files(
         alloc,
         "names",
         "Prints an entry's authors, or its editors if it has none, by a template",
@@ -264,7 +283,7 @@ Examples:
 fn newkeys<'a>(alloc: Global) -> Result<Command<'a>, AllocError>
     ensures { IfOk result (Reads newkeys_line) }
 {
-    over_file(
+    over_files(
         alloc,
         "newkeys",
         "Lists the keys that `edit F regenerate` would make, and changes nothing",
@@ -424,6 +443,7 @@ comments and text between items. Keys come from the command line and from the au
 
 Examples:
   bibkeep extract refs.bib --aux paper.aux > paper.bib   # what a paper cites
+  bibkeep extract refs.bib --before strings.bib --aux paper.aux > paper.bib   # of two files
   bibkeep extract refs.bib knuth86 lamport86
   bibkeep extract refs.bib '*'   # every entry",
     )
@@ -438,16 +458,23 @@ fn import<'a>(alloc: Global) -> Result<Command<'a>, AllocError>
         "Appends the RIS records on standard input as entries",
         "\
 A record's ID becomes the key if it is a valid key; otherwise an unused key is made of names and year. All entries are one
-change, which `bibkeep undo F` takes back. If one of them is refused, none is added.
+change, which `bibkeep undo F` takes back. If one of them is refused, none is added. Texts are copied: what LaTeX takes for
+a command, such as & or %, stays one, unless --latex is given.
 
 Examples:
   bibkeep import refs.bib < citation.ris
+  bibkeep import refs.bib --latex < citation.ris   # of someone else
   bibkeep import refs.bib --print < citation.ris | diff -u refs.bib -
   printf 'TY  - BOOK\\nTI  - Type\\nER  - \\n' | bibkeep import refs.bib",
     )?
     .arg(print(alloc))?
     .arg(new_journal(alloc))?
-    .arg(no_journal(alloc))
+    .arg(no_journal(alloc))?
+    .arg(switch(
+        alloc,
+        "latex",
+        "Writes texts so that LaTeX prints them as they are, except url and doi",
+    ))
 }
 
 fn explain<'a>(alloc: Global) -> Result<Command<'a>, AllocError>
@@ -488,9 +515,12 @@ fn over_cited<'a>(
 ) -> Result<Command<'a>, AllocError>
     ensures { IfOk result (Reads (cited_line name.entry.now)) }
 {
-    over_file(alloc, name, about, more)?
+    over_files(alloc, name, about, more)?
         .arg(keys(alloc))?
-        .arg(aux_files(alloc))
+        .arg(aux_files(
+            alloc,
+            "An aux file of LaTeX; the keys that it cites come after the KEYs",
+        ))
 }
 
 /// A command over a file that takes a number of changes.
@@ -505,6 +535,20 @@ fn over_steps<'a>(
     over_file(alloc, name, about, more)?
         .arg(count(alloc, "steps", "1", "How many changes, from 1 to 65535"))?
         .arg(print(alloc))
+}
+
+/// A command with the argument F that reads other files too.
+fn over_files<'a>(
+    alloc: Global,
+    name: &'a str,
+    about: &'a str,
+    more: &'a str,
+) -> Result<Command<'a>, AllocError>
+    ensures { IfOk result (Reads (over_files name.entry.now)) }
+{
+    over_file(alloc, name, about, more)?
+        .arg(files_before(alloc))?
+        .arg(files_after(alloc))
 }
 
 /// A command with the argument F.

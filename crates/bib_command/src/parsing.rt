@@ -1,6 +1,6 @@
 //! The command that the words of the command line name.
 
-ghost use Rattle.std.specs.Prelude.{◌≡◌, ◌⊎◌, ◌++◌, codes, IfOk, IfErr, OnOk, map, string_bytes, [], true};
+ghost use Rattle.std.specs.Prelude.{◌≡◌, ◌⊎◌, ◌++◌, IfOk, IfErr, OnOk, map, string_bytes, [], true};
 ghost use Rattle.clap.specs.Words.{fault_of, takes, rows_of, found_of};
 ghost use Rattle.bib_command.specs.CommandLine.{bibkeep, values, words_in, number, depth, given, command_of, IsCommandOf, asks_for_hints};
 ghost use Rattle.bib_command.specs.Usage.{no_memory, LackKeys, IsUsageFor};
@@ -85,9 +85,10 @@ fn command_of(alloc: Global, name: &str, matches: &ArgMatches<'_>) -> Result<Com
     Ok(Command {
         name: copied(alloc, name.as_bytes())?,
         words: words_in(alloc, matches)?,
-        aux: aux_in(alloc, matches)?,
-        before: Seq::empty(alloc),
-        after: Seq::empty(alloc),
+        aux: values_in(alloc, matches, "AUX")?,
+        before: values_in(alloc, matches, "BEFORE")?,
+        after: values_in(alloc, matches, "AFTER")?,
+        cited: Seq::empty(alloc),
         n: number_of(matches),
         depth: depth_of(matches),
         print: is_given(matches, "print"),
@@ -97,6 +98,8 @@ fn command_of(alloc: Global, name: &str, matches: &ArgMatches<'_>) -> Result<Com
         dropped: is_given(matches, "dropped"),
         at: is_given(matches, "at"),
         strict: is_given(matches, "strict"),
+        latex: is_given(matches, "latex"),
+        raw: is_given(matches, "raw"),
     })
 }
 
@@ -114,13 +117,13 @@ fn words_in(alloc: Global, matches: &ArgMatches<'_>) -> Result<Seq<Text>, AllocE
     Ok(Seq::from_vec(words))
 }
 
-/// The names of the aux files of a command, in order.
-fn aux_in(alloc: Global, matches: &ArgMatches<'_>) -> Result<Seq<Text>, AllocError>
-    ensures { IfOk result (λ aux. aux ≡ values (codes "AUX") (rows_of (found_of matches.now))) }
+/// The values of an argument, in order.
+fn values_in(alloc: Global, matches: &ArgMatches<'_>, id: &str) -> Result<Seq<Text>, AllocError>
+    ensures { IfOk result (λ found. found ≡ values id.now (rows_of (found_of matches.now))) }
 {
-    let mut aux = Vec::new(alloc);
-    add_values(alloc, &mut aux, matches, "AUX")?;
-    Ok(Seq::from_vec(aux))
+    let mut found = Vec::new(alloc);
+    add_values(alloc, &mut found, matches, id)?;
+    Ok(Seq::from_vec(found))
 }
 
 /// The number of a command, or 0 if it takes none.

@@ -62,7 +62,7 @@ pub fn hint_import(lines: &mut Lines, asked: &Asked<'_>, said: Said) -> Result<(
                 &parts,
             )
         }
-        (64, _) => hint_unbalanced(lines, asked.input),
+        (64, _) => hint_unbalanced(lines, asked.input, asked.command.latex),
         (37, _) => hint_id(lines, asked),
         _ => hint_fault(lines, asked, said),
     }
@@ -104,8 +104,8 @@ fn hint_unended(lines: &mut Lines, input: &[u8], place: usize) -> Result<(), All
     lines.say(b"write before that line: ER  - ", &[])
 }
 
-/// The first line of a record whose text has braces that do not match.
-fn hint_unbalanced(lines: &mut Lines, input: &[u8]) -> Result<(), AllocError> {
+/// The first line of a record whose text has braces that do not match; with `--latex` the first such URL or DOI.
+fn hint_unbalanced(lines: &mut Lines, input: &[u8], latex: bool) -> Result<(), AllocError> {
     let mut number = 0usize;
     let mut record = 0usize;
     'lines: for line in input.split(|byte| *byte == b'\n') {
@@ -113,7 +113,7 @@ fn hint_unbalanced(lines: &mut Lines, input: &[u8]) -> Result<(), AllocError> {
         if line.starts_with(b"TY  -") || number == 1 {
             record = record.saturating_add(1);
         }
-        if !is_balanced(line) {
+        if !is_balanced(line) && is_meant(line, latex) {
             let parts = [
                 Part::Count(record),
                 Part::Count(number),
@@ -123,6 +123,11 @@ fn hint_unbalanced(lines: &mut Lines, input: &[u8]) -> Result<(), AllocError> {
         }
     }
     Ok(())
+}
+
+/// Whether the braces of this line have to match: with `--latex` those of other lines than URLs and DOIs need not.
+fn is_meant(line: &[u8], latex: bool) -> bool {
+    !latex || line.starts_with(b"UR  -") || line.starts_with(b"DO  -")
 }
 
 /// An ID of the input that an entry has, or that two records have.

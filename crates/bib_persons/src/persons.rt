@@ -16,7 +16,7 @@ pub fn has_names(name: &[u8]) -> bool
     same_folded(name, b"author") || same_folded(name, b"editor")
 }
 
-/// How many commas there are, but 3 if there are more.
+/// How many commas there are.
 fn comma_count(text: &[u8]) -> usize
     ensures { result ≡ count_by is_comma_byte text.now }
 {

@@ -13,7 +13,7 @@ use Rattle.ris_text.specs.declared.fault.RisFault.{RisFault}
 use Rattle.ris_text.specs.Code.{with_record, with_front}
 use Rattle.ris_text.specs.Rest.{Rest, IsLeft}
 use Rattle.ris_text.proofs.RestLaws.{left-more}
-use Rattle.ris_format.specs.Mapping.{back}
+use Rattle.ris_format.specs.Escapes.{back_as}
 use Rattle.ris_format.proofs.PartLaws.{all-append}
 use Rattle.bib_ris.specs.Import.{records_of, HasUnbalanced}
 use Rattle.bib_ris.specs.Drafts.{AreSaidBy}
@@ -41,23 +41,23 @@ drafts-more records entry d e are balanced entries bases short = record {
     needs_key r = not (is_new_key r.key)
 
 -- the text says some records before what is left, and these are their drafts
-pub record AreSaid (text : Text) (rest : Rest) (d : Drafts) : Type 0 where
+pub record AreSaid (latex : Bool) (text : Text) (rest : Rest) (d : Drafts) : Type 0 where
   pub done : List RisRecord
   pub left : IsLeft text done rest
-  pub drafts : AreDraftsOf (records_of done) d
+  pub drafts : AreDraftsOf (records_of latex done) d
 
 -- one more record
-pub said-more : (text : Text) (rest after : Rest) (d e : Drafts) (r : RisRecord) → AreSaid text rest d → rest.says ≡ with_record r after.says
-    → ((so_far : List Record) → AreDraftsOf so_far d → AreDraftsOf (so_far ++ back r ∷ []) e) → AreSaid text after e
-said-more text rest after d e r so says adds = record {
+pub said-more : (latex : Bool) (text : Text) (rest after : Rest) (d e : Drafts) (r : RisRecord) → AreSaid latex text rest d → rest.says ≡ with_record r after.says
+    → ((so_far : List Record) → AreDraftsOf so_far d → AreDraftsOf (so_far ++ back_as latex r ∷ []) e) → AreSaid latex text after e
+said-more latex text rest after d e r so says adds = record {
   done = so.done ++ r ∷ [];
   left = left-more text so.done r rest after so.left says;
-  drafts = subst (λ (rs : List Record). AreDraftsOf rs e) (sym (map-append back so.done (r ∷ []))) (adds (records_of so.done) so.drafts);
+  drafts = subst (λ (rs : List Record). AreDraftsOf rs e) (sym (map-append (back_as latex) so.done (r ∷ []))) (adds (records_of latex so.done) so.drafts);
 }
 
 -- at the end
-pub said-all : (text : Text) (rest : Rest) (d : Drafts) (skipped : ℕ) → AreSaid text rest d → rest.says ≡ Ok (ris_file [] skipped) → AreSaidBy text d skipped
-said-all text rest d skipped so ends = record {
+pub said-all : (latex : Bool) (text : Text) (rest : Rest) (d : Drafts) (skipped : ℕ) → AreSaid latex text rest d → rest.says ≡ Ok (ris_file [] skipped) → AreSaidBy latex text d skipped
+said-all latex text rest d skipped so ends = record {
   said = ris_file so.done skipped;
   reads = so.left.reads (ris_file so.done skipped)
       (ap (with_front so.done 0) ends ∙ ap₂ (λ (rs : List RisRecord) (n : ℕ). Ok (ris_file rs n)) (append-nil so.done) (zero-add skipped));
@@ -65,27 +65,27 @@ said-all text rest d skipped so ends = record {
   skipped = refl;
 }
 
-all_of : (xs ys : List RisRecord) → list_all are_balanced (records_of (xs ++ ys)) ≡ (list_all are_balanced (records_of xs) && list_all are_balanced (records_of ys))
-all_of xs ys = ap (list_all are_balanced) (map-append back xs ys) ∙ list_all-append are_balanced (records_of xs) (records_of ys)
+all_of : (latex : Bool) (xs ys : List RisRecord) → list_all are_balanced (records_of latex (xs ++ ys)) ≡ (list_all are_balanced (records_of latex xs) && list_all are_balanced (records_of latex ys))
+all_of latex xs ys = ap (list_all are_balanced) (map-append (back_as latex) xs ys) ∙ list_all-append are_balanced (records_of latex xs) (records_of latex ys)
 
 -- if one record has a text that is not balanced, not all records are balanced
-one-unbalanced : (before : List RisRecord) (r : RisRecord) (after : List RisRecord) → are_balanced (back r) ≡ false
-    → list_all are_balanced (records_of ((before ++ r ∷ []) ++ after)) ≡ false
-one-unbalanced before r after unbalanced =
-    all_of (before ++ r ∷ []) after
-    ∙ ap (λ b. b && list_all are_balanced (records_of after))
-    (all_of before (r ∷ [])
-    ∙ ap (λ b. list_all are_balanced (records_of before) && (b && true)) unbalanced
-    ∙ and-false (list_all are_balanced (records_of before)))
+one-unbalanced : (latex : Bool) (before : List RisRecord) (r : RisRecord) (after : List RisRecord) → are_balanced (back_as latex r) ≡ false
+    → list_all are_balanced (records_of latex ((before ++ r ∷ []) ++ after)) ≡ false
+one-unbalanced latex before r after unbalanced =
+    all_of latex (before ++ r ∷ []) after
+    ∙ ap (λ b. b && list_all are_balanced (records_of latex after))
+    (all_of latex before (r ∷ [])
+    ∙ ap (λ b. list_all are_balanced (records_of latex before) && (b && true)) unbalanced
+    ∙ and-false (list_all are_balanced (records_of latex before)))
 
 -- a record that is not balanced, before others that are read
-pub said-unbalanced : (text : Text) (rest after : Rest) (d : Drafts) (r : RisRecord) (others : RisFile) → AreSaid text rest d → rest.says ≡ with_record r after.says
-    → are_balanced (back r) ≡ false → after.says ≡ Ok others → HasUnbalanced text
-said-unbalanced text rest after d r others so says unbalanced ends = record {
+pub said-unbalanced : (latex : Bool) (text : Text) (rest after : Rest) (d : Drafts) (r : RisRecord) (others : RisFile) → AreSaid latex text rest d → rest.says ≡ with_record r after.says
+    → are_balanced (back_as latex r) ≡ false → after.says ≡ Ok others → HasUnbalanced latex text
+said-unbalanced latex text rest after d r others so says unbalanced ends = record {
   said = ris_file ((so.done ++ r ∷ []) ++ others.records) (0 + others.skipped);
   reads = (left-more text so.done r rest after so.left says).reads (ris_file ((so.done ++ r ∷ []) ++ others.records) (0 + others.skipped))
       (ap (with_front (so.done ++ r ∷ []) 0) ends);
-  unbalanced = one-unbalanced so.done r others.records unbalanced;
+  unbalanced = one-unbalanced latex so.done r others.records unbalanced;
 }
 
 -- ---- what is left, read to its end

@@ -1,5 +1,5 @@
 -- Records as entries, before keys are made for those that need one.
-use Rattle.std.specs.Prelude.{ℕ, ◌≡◌, ◌≤◌, true, not, if◌then◌else◌, List, [], ◌∷◌, length, map, filter}
+use Rattle.std.specs.Prelude.{ℕ, Bool, ◌≡◌, ◌≤◌, true, not, if◌then◌else◌, List, [], ◌∷◌, length, map, filter}
 use Rattle.std.specs.List.{list_all, AllByRecursion}
 use Rattle.bib_spec.specs.Text.{Text, is_new_key}
 use Rattle.bib_spec.specs.Records.{Record}
@@ -24,10 +24,10 @@ pub record AreDraftsOf (records : List Record) (d : Drafts) : Type 0 where
   pub balanced : list_all are_balanced records ≡ true
 
 -- the drafts of the records that the text says, and how many of its lines are skipped
-pub record AreSaidBy (text : Text) (d : Drafts) (count : ℕ) : Type 0 where
+pub record AreSaidBy (latex : Bool) (text : Text) (d : Drafts) (count : ℕ) : Type 0 where
   pub said : RisFile
   pub reads : Reads text said
-  pub drafts : AreDraftsOf (records_of said.records) d
+  pub drafts : AreDraftsOf (records_of latex said.records) d
   pub skipped : count ≡ said.skipped
 
 -- the keys of entries that an edit may write

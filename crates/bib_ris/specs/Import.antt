@@ -1,5 +1,5 @@
 -- The entries that a RIS text adds to a file, and their keys. (dialect)
-use Rattle.std.specs.Prelude.{◌≡◌, ◌≢◌, true, false, if◌then◌else◌, List, [], ◌∷◌, map, filter}
+use Rattle.std.specs.Prelude.{◌≡◌, ◌≢◌, Bool, true, false, if◌then◌else◌, List, [], ◌∷◌, map, filter}
 use Rattle.std.specs.List.{list_all}
 use Rattle.bib_spec.specs.Text.{Text, is_new_key}
 use Rattle.bib_spec.specs.Reading.{Reading}
@@ -13,7 +13,7 @@ use Rattle.ris_text.specs.declared.records.RisRecord.{RisRecord}
 use Rattle.ris_text.specs.declared.records.RisFile.{RisFile}
 use Rattle.ris_text.specs.declared.fault.RisFault.TheVariants as text_fault
 use Rattle.ris_text.specs.Reading.{Reads, IsFaultOf}
-use Rattle.ris_format.specs.Mapping.{back}
+use Rattle.ris_format.specs.Escapes.{back_as}
 use Rattle.ris_format.specs.Entry.{entry_of, are_balanced}
 use Rattle.bib_ris.specs.declared.fault.ImportFault.{ImportFault}
 use Rattle.bib_ris.specs.declared.fault.ImportFault.TheVariants.{Unread, UnbalancedText, Memory}
@@ -44,26 +44,26 @@ keyed taken (r ∷ records) =
 abbrev pub imported : Reading → List Record → List NewEntry
 imported db records = map entry_of (keyed (taken_in db (usable_ids records)) records)
 
--- the records that these RIS records say
-abbrev pub records_of : List RisRecord → List Record
-records_of records = map back records
+-- the records that these RIS records say, as they are or as LaTeX prints them
+abbrev pub records_of : Bool → List RisRecord → List Record
+records_of latex records = map (back_as latex) records
 
 -- what a RIS text adds to a file: the text says records whose texts are balanced, and these are their entries
-pub record AreAdditions (file text : Text) (a : Additions) : Type 0 where
+pub record AreAdditions (latex : Bool) (file text : Text) (a : Additions) : Type 0 where
   pub said : RisFile
   pub reads : Reads text said
-  pub balanced : list_all are_balanced (records_of said.records) ≡ true
-  pub entries : OfReading file (λ db. a.entries ≡ imported db (records_of said.records))
+  pub balanced : list_all are_balanced (records_of latex said.records) ≡ true
+  pub entries : OfReading file (λ db. a.entries ≡ imported db (records_of latex said.records))
   pub skipped : a.skipped ≡ said.skipped
 
 -- the text says records, and a text of one is not balanced
-pub record HasUnbalanced (text : Text) : Type 0 where
+pub record HasUnbalanced (latex : Bool) (text : Text) : Type 0 where
   pub said : RisFile
   pub reads : Reads text said
-  pub unbalanced : list_all are_balanced (records_of said.records) ≡ false
+  pub unbalanced : list_all are_balanced (records_of latex said.records) ≡ false
 
 -- why a text gives no entries: it is not read; or else a text of a record is not balanced; or memory was refused
-abbrev pub RefusesImport : ImportFault → Text → Type 0
-RefusesImport Memory text = Unit {0}
-RefusesImport (Unread fault) text = (fault ≢ text_fault.Memory) × IsFaultOf text fault
-RefusesImport UnbalancedText text = HasUnbalanced text
+abbrev pub RefusesImport : Bool → ImportFault → Text → Type 0
+RefusesImport latex Memory text = Unit {0}
+RefusesImport latex (Unread fault) text = (fault ≢ text_fault.Memory) × IsFaultOf text fault
+RefusesImport latex UnbalancedText text = HasUnbalanced latex text

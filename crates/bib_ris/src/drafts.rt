@@ -9,7 +9,7 @@ ghost use Rattle.bib_spec.specs.MadeKeys.{base_limit};
 ghost use Rattle.bib_keys.specs.MadeBase.{made_base};
 ghost use Rattle.ris_text.specs.declared.records.RisFile.{RisFile};
 ghost use Rattle.ris_text.specs.declared.fault.RisFault.TheVariants.{Memory as TextMemory};
-ghost use Rattle.ris_format.specs.Mapping.{back};
+ghost use Rattle.ris_format.specs.Escapes.{back_as};
 ghost use Rattle.ris_format.specs.Entry.{are_balanced};
 ghost use Rattle.bib_ris.specs.Import.{RefusesImport};
 ghost use Rattle.bib_ris.specs.Drafts.{bases_of, AreDraftsOf, AreSaidBy, usable_keys, with_keys};
@@ -19,7 +19,7 @@ use crate::fault::ImportFault;
 use bib_data::{NewEntry, Record};
 use bib_names::key_base;
 use bib_scan::{Seq, Text, copied, is_key};
-use ris_format::{MappingFault, from_ris, into_entry};
+use ris_format::{MappingFault, from_ris_as, into_entry};
 use ris_text::{RisFault, RisRecord, Unread};
 use std::alloc::{AllocError, Global};
 
@@ -80,14 +80,14 @@ impl Drafts {
         Ok(())
     }
 
-    /// Adds the draft of a RIS record, and answers whether its texts are balanced. If one is not, the drafts are
-    /// useless.
-    fn add(&mut self, alloc: Global, ris: &RisRecord) -> Result<bool, ImportFault>
-        ensures added { IfOk result (λ balanced. balanced ≡ true → (records : List EntryRecord) → AreDraftsOf records self.old → AreDraftsOf (records ++ back ris.now ∷ []) self.new) }
-        ensures unbalanced { IfOk result (λ balanced. balanced ≡ false → are_balanced (back ris.now) ≡ false) }
+    /// Adds the draft of a RIS record, as it is or as LaTeX prints it, and answers whether its texts are balanced. If one
+    /// is not, the drafts are useless.
+    fn add(&mut self, alloc: Global, ris: &RisRecord, latex: bool) -> Result<bool, ImportFault>
+        ensures added { IfOk result (λ balanced. balanced ≡ true → (records : List EntryRecord) → AreDraftsOf records self.old → AreDraftsOf (records ++ back_as latex ris.now ∷ []) self.new) }
+        ensures unbalanced { IfOk result (λ balanced. balanced ≡ false → are_balanced (back_as latex ris.now) ≡ false) }
         ensures memory { IfErr result (λ fault. fault ≡ Memory) }
     {
-        let entry = from_ris(alloc, ris)?;
+        let entry = from_ris_as(alloc, ris, latex)?;
         self.add_base(alloc, &entry)?;
         match into_entry(alloc, entry) {
             Ok(draft) => {
@@ -99,12 +99,12 @@ impl Drafts {
         }
     }
 
-    /// The drafts of the records that a RIS text says, and how many lines of the text are skipped. Each record is
-    /// dropped once its draft is made, before the next record is read. A fault of reading is reported even if a record
-    /// before it has a text that is not balanced.
-    pub fn of(alloc: Global, text: &[u8]) -> Result<(Drafts, u64), ImportFault>
-        ensures drafts { IfOk result (λ r. AreSaidBy text.now r.0 r.1) }
-        ensures refused { IfErr result (λ fault. RefusesImport fault text.now) }
+    /// The drafts of the records that a RIS text says, as they are or as LaTeX prints them, and how many lines of the text
+    /// are skipped. Each record is dropped once its draft is made, before the next record is read. A fault of reading is
+    /// reported even if a record before it has a text that is not balanced.
+    pub fn of(alloc: Global, text: &[u8], latex: bool) -> Result<(Drafts, u64), ImportFault>
+        ensures drafts { IfOk result (λ r. AreSaidBy latex text.now r.0 r.1) }
+        ensures refused { IfErr result (λ fault. RefusesImport latex fault text.now) }
     {
         let mut drafts = Drafts::none(alloc);
         let mut rest = Unread::of(text);
@@ -114,7 +114,7 @@ impl Drafts {
             let Some(ris) = first else {
                 return Ok((drafts, rest.skipped()));
             };
-            if !drafts.add(alloc, &ris)? {
+            if !drafts.add(alloc, &ris, latex)? {
                 read_on(alloc, rest)?;
                 return Err(ImportFault::UnbalancedText);
             }

@@ -66,7 +66,8 @@ fn imported<L: ItemList>(
     Ok(with_keys(drafts.entries, keys))
 }
 
-/// What a RIS text adds to an open file. A record whose ID can be a key keeps it. Each other record gets a free key
+/// What a RIS text adds to an open file: its records as they are, or with `latex` with texts that LaTeX prints as they are
+/// in RIS (`from_ris_as`). A record whose ID can be a key keeps it. Each other record gets a free key
 /// from its made base, which is no ID of the text and no key that was made before. It takes time in the lengths of the
 /// text and of the file's keys, and memory for the entries; RIS records are read one at a time.
 ///
@@ -76,11 +77,12 @@ pub fn import<L: ItemList>(
     alloc: Global,
     db: &Database<L>,
     text: &[u8],
+    latex: bool,
 ) -> Result<Additions, ImportFault>
-    ensures additions { IfOk result (AreAdditions db.now text.now) }
-    ensures refused { IfErr result (λ fault. RefusesImport fault text.now) }
+    ensures additions { IfOk result (AreAdditions latex db.now text.now) }
+    ensures refused { IfErr result (λ fault. RefusesImport latex fault text.now) }
 {
-    let (drafts, skipped) = Drafts::of(alloc, text)?;
+    let (drafts, skipped) = Drafts::of(alloc, text, latex)?;
     let entries = imported(alloc, db, drafts)?;
     Ok(Additions { entries, skipped })
 }

@@ -28,6 +28,7 @@ use Rattle.bib_journal.specs.OneResult.{IsGood}
 use Rattle.bib_journal.specs.Session.{started}
 use Rattle.bib_journal.proofs.Moves.{none_open}
 use Rattle.bib_journal.proofs.OneResult.{one-result, one_saved, one_does, one_refusal, not_both}
+use Rattle.aux_text.specs.declared.placing.AuxKeys.{AuxKeys}
 use Rattle.bib_answers.specs.Names.{Spells, IsNamesAnswer, names_answer}
 use Rattle.bib_answers.specs.Lint.{lint_answer, fault_lines}
 use Rattle.bib_faults.specs.GoingOn.{Fault}
@@ -118,18 +119,18 @@ past_is_read file kind place told past short unread (inl fault) = of_read kind p
     of_read k p (no_memory within) told past = told refl
 past_is_read file kind place told past short unread (inr text) = unread (text.db, text.reads)
 
-one_lint : (ignored : List Text) (name file : Text) → One (IsLintAnswer ignored name file)
-one_lint ignored name file a b (IsLintAnswer.opened db opens is) (IsLintAnswer.opened db' opens' is') =
-    is ∙ ap (lint_answer ignored name file) (one_reading name_limit file db db' opens.reads opens'.reads) ∙ sym is'
-one_lint ignored name file a b (IsLintAnswer.opened db opens is) (IsLintAnswer.faulty short unread faults are is') = absurd (unread (db, opens.reads))
-one_lint ignored name file a b (IsLintAnswer.opened db opens is) (IsLintAnswer.refused kind place told past fault is') = absurd (told (open_fault file kind place (db, opens) fault))
-one_lint ignored name file a b (IsLintAnswer.faulty short unread faults are is) (IsLintAnswer.opened db opens is') = absurd (unread (db, opens.reads))
-one_lint ignored name file a b (IsLintAnswer.faulty short unread faults are is) (IsLintAnswer.faulty short' unread' faults' are' is') =
+one_lint : (ignored : List Text) (cited : List AuxKeys) (name file : Text) → One (IsLintAnswer ignored cited name file)
+one_lint ignored cited name file a b (IsLintAnswer.opened db opens is) (IsLintAnswer.opened db' opens' is') =
+    is ∙ ap (lint_answer ignored cited name file) (one_reading name_limit file db db' opens.reads opens'.reads) ∙ sym is'
+one_lint ignored cited name file a b (IsLintAnswer.opened db opens is) (IsLintAnswer.faulty short unread faults are is') = absurd (unread (db, opens.reads))
+one_lint ignored cited name file a b (IsLintAnswer.opened db opens is) (IsLintAnswer.refused kind place told past fault is') = absurd (told (open_fault file kind place (db, opens) fault))
+one_lint ignored cited name file a b (IsLintAnswer.faulty short unread faults are is) (IsLintAnswer.opened db opens is') = absurd (unread (db, opens.reads))
+one_lint ignored cited name file a b (IsLintAnswer.faulty short unread faults are is) (IsLintAnswer.faulty short' unread' faults' are' is') =
     is ∙ ap (λ (fs : List Fault). answer_of (fault_lines name file fs) [] 1) (one-list-of-faults file faults faults' are are') ∙ sym is'
-one_lint ignored name file a b (IsLintAnswer.faulty short unread faults are is) (IsLintAnswer.refused kind place told past fault is') = absurd (past_is_read file kind place told past short unread fault)
-one_lint ignored name file a b (IsLintAnswer.refused kind place told past fault is) (IsLintAnswer.opened db opens is') = absurd (told (open_fault file kind place (db, opens) fault))
-one_lint ignored name file a b (IsLintAnswer.refused kind place told past fault is) (IsLintAnswer.faulty short unread faults are is') = absurd (past_is_read file kind place told past short unread fault)
-one_lint ignored name file a b (IsLintAnswer.refused kind place told past fault is) (IsLintAnswer.refused kind' place' told' past' fault' is') =
+one_lint ignored cited name file a b (IsLintAnswer.faulty short unread faults are is) (IsLintAnswer.refused kind place told past fault is') = absurd (past_is_read file kind place told past short unread fault)
+one_lint ignored cited name file a b (IsLintAnswer.refused kind place told past fault is) (IsLintAnswer.opened db opens is') = absurd (told (open_fault file kind place (db, opens) fault))
+one_lint ignored cited name file a b (IsLintAnswer.refused kind place told past fault is) (IsLintAnswer.faulty short unread faults are is') = absurd (past_is_read file kind place told past short unread fault)
+one_lint ignored cited name file a b (IsLintAnswer.refused kind place told past fault is) (IsLintAnswer.refused kind' place' told' past' fault' is') =
     let same = one_open_fault file kind place kind' place' told told' fault fault' in
     is ∙ ap₂ (λ (k p : ℕ). answer_of (error_line name (position_of file p) k) [] 1) same.0 same.1 ∙ sym is'
 
@@ -257,28 +258,28 @@ one_forget file a b (IsForgetAnswer.unforgotten u) (IsForgetAnswer.unforgotten v
 
 -- ---- what an import answers
 
-one_additions : (file text : Text) (a b : Additions) → IsOpenable file → AreAdditions file text a → AreAdditions file text b → a ≡ b
-one_additions file text a b opens x y =
+one_additions : (latex : Bool) (file text : Text) (a b : Additions) → IsOpenable file → AreAdditions latex file text a → AreAdditions latex file text b → a ≡ b
+one_additions latex file text a b opens x y =
     let said : x.said ≡ y.said = meanings.says_one (lines_of text) x.said y.said x.reads y.reads in
     ap (λ (es : List NewEntry). record { entries = es; skipped = a.skipped })
-    (x.entries opens.0 opens.1.reads ∙ ap (λ (s : RisFile). imported opens.0 (records_of s.records)) said ∙ sym (y.entries opens.0 opens.1.reads))
+    (x.entries opens.0 opens.1.reads ∙ ap (λ (s : RisFile). imported opens.0 (records_of latex s.records)) said ∙ sym (y.entries opens.0 opens.1.reads))
     ∙ ap (λ (n : ℕ). record { entries = b.entries; skipped = n }) (x.skipped ∙ ap (λ (s : RisFile). s.skipped) said ∙ sym y.skipped)
 
 -- a text that adds entries gives some
-not_refused : (file text : Text) (a : Additions) (fault : ImportFault) → fault ≢ Memory → AreAdditions file text a → RefusesImport fault text → ⊥
-not_refused file text a Memory told adds why = told refl
-not_refused file text a (Unread fault) told adds why = meanings.wrong_says_nothing (length text) (lines_of text) adds.said fault adds.reads why.1
-not_refused file text a UnbalancedText told adds why =
-    false≢true (sym why.unbalanced ∙ ap (λ (s : RisFile). list_all are_balanced (records_of s.records)) (meanings.says_one (lines_of text) why.said adds.said why.reads adds.reads) ∙ adds.balanced)
+not_refused : (latex : Bool) (file text : Text) (a : Additions) (fault : ImportFault) → fault ≢ Memory → AreAdditions latex file text a → RefusesImport latex fault text → ⊥
+not_refused latex file text a Memory told adds why = told refl
+not_refused latex file text a (Unread fault) told adds why = meanings.wrong_says_nothing (length text) (lines_of text) adds.said fault adds.reads why.1
+not_refused latex file text a UnbalancedText told adds why =
+    false≢true (sym why.unbalanced ∙ ap (λ (s : RisFile). list_all are_balanced (records_of latex s.records)) (meanings.says_one (lines_of text) why.said adds.said why.reads adds.reads) ∙ adds.balanced)
 
-one_import_fault : (text : Text) (f g : ImportFault) → f ≢ Memory → g ≢ Memory → RefusesImport f text → RefusesImport g text → f ≡ g
-one_import_fault text (Unread f) (Unread g) told told' why why' = ap Unread (meanings.one_fault (length text) (lines_of text) f g why.1 why'.1)
-one_import_fault text (Unread f) UnbalancedText told told' why why' = absurd (meanings.wrong_says_nothing (length text) (lines_of text) why'.said f why'.reads why.1)
-one_import_fault text (Unread f) Memory told told' why why' = absurd (told' refl)
-one_import_fault text UnbalancedText (Unread g) told told' why why' = absurd (meanings.wrong_says_nothing (length text) (lines_of text) why.said g why.reads why'.1)
-one_import_fault text UnbalancedText UnbalancedText told told' why why' = refl
-one_import_fault text UnbalancedText Memory told told' why why' = absurd (told' refl)
-one_import_fault text Memory g told told' why why' = absurd (told refl)
+one_import_fault : (latex : Bool) (text : Text) (f g : ImportFault) → f ≢ Memory → g ≢ Memory → RefusesImport latex f text → RefusesImport latex g text → f ≡ g
+one_import_fault latex text (Unread f) (Unread g) told told' why why' = ap Unread (meanings.one_fault (length text) (lines_of text) f g why.1 why'.1)
+one_import_fault latex text (Unread f) UnbalancedText told told' why why' = absurd (meanings.wrong_says_nothing (length text) (lines_of text) why'.said f why'.reads why.1)
+one_import_fault latex text (Unread f) Memory told told' why why' = absurd (told' refl)
+one_import_fault latex text UnbalancedText (Unread g) told told' why why' = absurd (meanings.wrong_says_nothing (length text) (lines_of text) why.said g why.reads why'.1)
+one_import_fault latex text UnbalancedText UnbalancedText told told' why why' = refl
+one_import_fault latex text UnbalancedText Memory told told' why why' = absurd (told' refl)
+one_import_fault latex text Memory g told told' why why' = absurd (told refl)
 
 one_added : (a : Additions) (s : SessionState) → IsGood s → One (HasAdded a s)
 one_added a s good x y (HasAdded.added closed saved makes saves is) (HasAdded.added closed' saved' makes' saves' is') =
@@ -291,13 +292,13 @@ one_added a s good x y (HasAdded.refused fault told refuses is) (HasAdded.added 
 one_added a s good x y (HasAdded.refused fault told refuses is) (HasAdded.refused fault' told' refuses' is') =
     is ∙ ap (λ (f : SessionFault). answer_of [] (fault_line f) 1) (one_refusal (request.Edit (AddMany a.entries)) fault fault' s good.0.present told told' refuses refuses') ∙ sym is'
 
-one_imported : (text : Text) (s : SessionState) → IsGood s → One (HasImported text s)
-one_imported text s good x y (HasImported.read a adds has) (HasImported.read b adds' has') =
-    one_added b s good x y (subst (λ (a : Additions). HasAdded a s x) (one_additions s.steps.present text a b good.0.present adds adds') has) has'
-one_imported text s good x y (HasImported.read a adds has) (HasImported.unread fault told refuses is) = absurd (not_refused s.steps.present text a fault told adds refuses)
-one_imported text s good x y (HasImported.unread fault told refuses is) (HasImported.read a adds has) = absurd (not_refused s.steps.present text a fault told adds refuses)
-one_imported text s good x y (HasImported.unread fault told refuses is) (HasImported.unread fault' told' refuses' is') =
-    is ∙ ap (λ (f : ImportFault). answer_of [] (import_fault_line f) 1) (one_import_fault text fault fault' told told' refuses refuses') ∙ sym is'
+one_imported : (latex : Bool) (text : Text) (s : SessionState) → IsGood s → One (HasImported latex text s)
+one_imported latex text s good x y (HasImported.read a adds has) (HasImported.read b adds' has') =
+    one_added b s good x y (subst (λ (a : Additions). HasAdded a s x) (one_additions latex s.steps.present text a b good.0.present adds adds') has) has'
+one_imported latex text s good x y (HasImported.read a adds has) (HasImported.unread fault told refuses is) = absurd (not_refused latex s.steps.present text a fault told adds refuses)
+one_imported latex text s good x y (HasImported.unread fault told refuses is) (HasImported.read a adds has) = absurd (not_refused latex s.steps.present text a fault told adds refuses)
+one_imported latex text s good x y (HasImported.unread fault told refuses is) (HasImported.unread fault' told' refuses' is') =
+    is ∙ ap (λ (f : ImportFault). answer_of [] (import_fault_line f) 1) (one_import_fault latex text fault fault' told told' refuses refuses') ∙ sym is'
 
 -- ---- all commands
 
@@ -317,12 +318,12 @@ one_whole command file journal input a b x y =
 one_of_verb : (verb : Verb) (command : Command) (file : Text) (journal : Option Text) (input : Text) → verb ≢ Explain → One (Answers verb command file journal input)
 one_of_verb (Asks question) command file journal input other = one_of_file (question_answer question command) file
 one_of_verb Cat command file journal input other = one_cat file
-one_of_verb Lint command file journal input other = one_lint (key_words command) (first_word command) file
+one_of_verb Lint command file journal input other = one_lint (key_words command) command.cited (first_word command) file
 one_of_verb Names command file journal input other = one_names command.depth (key_word command) (template_word command) file
 one_of_verb Explain command file journal input other = absurd (other refl)
 one_of_verb Edit command file journal input other = one_whole command file journal input
 one_of_verb Import command file journal input other =
-    one_session command.new_journal (AnswersInput HasImported input) file journal (λ s good. one_input HasImported input s (one_imported input s good))
+    one_session command.new_journal (AnswersInput (HasImported command.latex) input) file journal (λ s good. one_input (HasImported command.latex) input s (one_imported command.latex input s good))
 one_of_verb Undo command file journal input other = one_turned (codes "undone") request.Undo command.n file journal
 one_of_verb Redo command file journal input other = one_turned (codes "redone") request.Redo command.n file journal
 one_of_verb Log command file journal input other = one_log file journal

@@ -311,17 +311,17 @@ added_run command input kept old new answer a opens asks (HasAdded.refused fault
     (record { within = omega arith; did = refl; stops = refuses }) (same_disk kept old new (stores ∙ ap (λ (x : Answer). stored old x.outcome) is) opens)
 
 read_run : (command : Command) (input : Text) (kept : KeptSteps) (old new : OnDisk) (answer : Answer) → Opens old.file old.journal kept → verb_of command.name ≡ Some verbs.Import
-    → HasImported input (idle kept) answer → new ≡ stored old answer.outcome → IsSession command input kept new
+    → HasImported command.latex input (idle kept) answer → new ≡ stored old answer.outcome → IsSession command input kept new
 read_run command input kept old new answer opens named (HasImported.read a adds has) stores =
     added_run command input kept old new answer a opens (asked verbs.Import command kept.present input (request.Edit (AddMany a.entries) ∷ []) named (AsksAdditions.addition a adds)) has stores
 read_run command input kept old new answer opens named (HasImported.unread fault told refuses is) stores =
     asks_nothing command input kept old new (asked verbs.Import command kept.present input [] named (AsksAdditions.no_text fault told refuses)) opens (stores ∙ ap (λ (a : Answer). stored old a.outcome) is)
 
 import_run : (command : Command) (input : Text) (kept : KeptSteps) (old new : OnDisk) (answer : Answer) → Opens old.file old.journal kept → verb_of command.name ≡ Some verbs.Import
-    → IsImportAnswer command.new_journal old.file old.journal input answer → new ≡ stored old answer.outcome → IsSession command input kept new
+    → IsImportAnswer command.latex command.new_journal old.file old.journal input answer → new ≡ stored old answer.outcome → IsSession command input kept new
 import_run command input kept old new answer opens named (AnswersSession.answered opened with (AnswersInput.within short has)) stores =
     read_run command input kept old new answer opens named
-    (subst (λ (s : SessionState). HasImported input s answer) (opened-with command.new_journal old.file old.journal kept opened opens with) has) stores
+    (subst (λ (s : SessionState). HasImported command.latex input s answer) (opened-with command.new_journal old.file old.journal kept opened opens with) has) stores
 import_run command input kept old new answer opens named (AnswersSession.answered opened with (AnswersInput.too_long far told)) stores =
     asks_nothing command input kept old new (asked verbs.Import command kept.present input [] named (AsksAdditions.too_long far)) opens (stores ∙ ap (λ (a : Answer). stored old a.outcome) told)
 import_run command input kept old new answer opens named (AnswersSession.unopened is) stores =

@@ -13,6 +13,7 @@ use Rattle.bib_words.specs.declared.verbs.Verb.{Verb}
 use Rattle.bib_words.specs.declared.verbs.Verb.TheVariants.{Asks, Cat, Lint, Names, Explain, Edit, Import, Undo, Redo, Log, Forget}
 use Rattle.bib_words.specs.Verbs.{verb_of}
 use Rattle.bib_journal.proofs.LoadLemmas.{opened_short}
+use Rattle.aux_text.specs.declared.placing.AuxKeys.{AuxKeys}
 use Rattle.bib_answers.specs.Opened as opening
 use Rattle.bib_answers.specs.Opened.{opened}
 use Rattle.bib_answers.specs.Cat.{copied, refused}
@@ -137,11 +138,11 @@ fault_position bytes kind place long (inl (no_reading fault at within failing wr
 fault_position bytes kind place long (inl (no_memory within)) = absurd (front_is_long bytes long within)
 fault_position bytes kind place long (inr fault) = absurd (front_is_long bytes long fault.short)
 
-IsLintAnswer-long : (ignored : List Text) (name bytes : Text) (answer : Answer) → file_limit < length bytes → IsLintAnswer ignored name (take (file_limit + 1) bytes) answer
-    → IsLintAnswer ignored name bytes answer
-IsLintAnswer-long ignored name bytes answer long (linting.opened db opens is) = absurd (front_is_long bytes long opens.short)
-IsLintAnswer-long ignored name bytes answer long (linting.faulty short unread faults are is) = absurd (front_is_long bytes long short)
-IsLintAnswer-long ignored name bytes answer long (linting.refused kind place other past fault is) =
+IsLintAnswer-long : (ignored : List Text) (cited : List AuxKeys) (name bytes : Text) (answer : Answer) → file_limit < length bytes → IsLintAnswer ignored cited name (take (file_limit + 1) bytes) answer
+    → IsLintAnswer ignored cited name bytes answer
+IsLintAnswer-long ignored cited name bytes answer long (linting.opened db opens is) = absurd (front_is_long bytes long opens.short)
+IsLintAnswer-long ignored cited name bytes answer long (linting.faulty short unread faults are is) = absurd (front_is_long bytes long short)
+IsLintAnswer-long ignored cited name bytes answer long (linting.refused kind place other past fault is) =
     linting.refused kind place other past (IsOpenFault-long bytes kind place long fault)
     (is ∙ ap (λ (at : Position). answer_of (error_line name at kind) [] 1) (fault_position bytes kind place long fault))
 
@@ -166,11 +167,11 @@ Answers-long : (verb : Verb) (command : Command) (bytes : Text) (journal : Optio
     → Answers verb command (take (file_limit + 1) bytes) journal input answer → Answers verb command bytes journal input answer
 Answers-long (Asks question) command bytes journal input answer long = AnswersFile-long (question_answer question command) bytes answer long
 Answers-long Cat command bytes journal input answer long = IsCatAnswer-long bytes answer long
-Answers-long Lint command bytes journal input answer long = IsLintAnswer-long (key_words command) (first_word command) bytes answer long
+Answers-long Lint command bytes journal input answer long = IsLintAnswer-long (key_words command) command.cited (first_word command) bytes answer long
 Answers-long Names command bytes journal input answer long = IsNamesAnswer-long command.depth (key_word command) (template_word command) bytes answer long
 Answers-long Explain command bytes journal input answer long = λ given. given
 Answers-long Edit command bytes journal input answer long = IsWholeAnswer-long command bytes journal input answer long
-Answers-long Import command bytes journal input answer long = AnswersSession-long command.new_journal (AnswersInput HasImported input) bytes journal answer long
+Answers-long Import command bytes journal input answer long = AnswersSession-long command.new_journal (AnswersInput (HasImported command.latex) input) bytes journal answer long
 Answers-long Undo command bytes journal input answer long = IsTurnAnswer-long (codes "undone") request.Undo command.n bytes journal answer long
 Answers-long Redo command bytes journal input answer long = IsTurnAnswer-long (codes "redone") request.Redo command.n bytes journal answer long
 Answers-long Log command bytes journal input answer long = IsLogAnswer-long bytes journal answer long
@@ -201,7 +202,7 @@ Answers-input Lint command file journal input answer long = λ given. given
 Answers-input Names command file journal input answer long = λ given. given
 Answers-input Explain command file journal input answer long = λ given. given
 Answers-input Edit command file journal input answer long = IsWholeAnswer-input command file journal input answer long
-Answers-input Import command file journal input answer long = AnswersSession-input command.new_journal HasImported file journal input answer long
+Answers-input Import command file journal input answer long = AnswersSession-input command.new_journal (HasImported command.latex) file journal input answer long
 Answers-input Undo command file journal input answer long = λ given. given
 Answers-input Redo command file journal input answer long = λ given. given
 Answers-input Log command file journal input answer long = λ given. given

@@ -16,7 +16,7 @@ use Rattle.bib_answers.specs.Show.{show_answer}
 use Rattle.bib_answers.specs.Entry.{entry_answer}
 use Rattle.bib_answers.specs.Cite.{cite_answer}
 use Rattle.bib_answers.specs.Labels.{labels_answer}
-use Rattle.bib_answers.specs.Json.{json_answer}
+use Rattle.bib_answers.specs.Raw.{json_answer}
 use Rattle.bib_answers.specs.NewKeys.{newkeys_answer}
 use Rattle.bib_answers.specs.Extract.{extract_answer}
 use Rattle.bib_answers.specs.Lint.{IsLintAnswer}
@@ -53,7 +53,7 @@ question_answer Show command = show_answer command.depth (key_word command)
 question_answer Entry command = entry_answer command.at (key_words command)
 question_answer Cite command = cite_answer command.strict (key_words command) command.n
 question_answer Labels command = labels_answer command.depth (key_words command)
-question_answer Json command = json_answer command.depth (key_words command)
+question_answer Json command = json_answer command.raw command.depth (key_words command)
 question_answer NewKeys command = newkeys_answer command.depth
 question_answer Ris command = ris_answer command.dropped command.depth (key_words command)
 question_answer Extract command = extract_answer (key_words command)
@@ -73,11 +73,11 @@ pub record IsWholeAnswer (command : Command) (file : Text) (journal : Option Tex
 abbrev pub Answers : Verb → Command → Text → Option Text → Text → Answer → Type 0
 Answers (Asks question) command file journal input = AnswersFile (question_answer question command) file
 Answers Cat command file journal input = IsCatAnswer file
-Answers Lint command file journal input = IsLintAnswer (key_words command) (first_word command) file
+Answers Lint command file journal input = IsLintAnswer (key_words command) command.cited (first_word command) file
 Answers Names command file journal input = IsNamesAnswer command.depth (key_word command) (template_word command) file
 Answers Explain command file journal input = IsExplainAnswer (first_word command)
 Answers Edit command file journal input = IsWholeAnswer command file journal input
-Answers Import command file journal input = IsImportAnswer command.new_journal file journal input
+Answers Import command file journal input = IsImportAnswer command.latex command.new_journal file journal input
 Answers Undo command file journal input = IsTurnAnswer (codes "undone") request.Undo command.n file journal
 Answers Redo command file journal input = IsTurnAnswer (codes "redone") request.Redo command.n file journal
 Answers Log command file journal input = IsLogAnswer file journal

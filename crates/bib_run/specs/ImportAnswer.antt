@@ -52,11 +52,12 @@ pub data HasAdded (a : Additions) (opened : SessionState) (answer : Answer) : Ty
       → HasAdded a opened answer
   refused : (fault : SessionFault) → fault ≢ Memory → RefusesEdit fault (AddMany a.entries) opened → answer ≡ answer_of [] (fault_line fault) 1 → HasAdded a opened answer
 
--- the answer of a session to a RIS text: its entries are added, or why it gives no entries
-pub data HasImported (text : Text) (opened : SessionState) (answer : Answer) : Type 0 where
-  read : (a : Additions) → AreAdditions opened.steps.present text a → HasAdded a opened answer → HasImported text opened answer
-  unread : (fault : ImportFault) → fault ≢ import_fault.Memory → RefusesImport fault text → answer ≡ answer_of [] (import_fault_line fault) 1 → HasImported text opened answer
+-- the answer of a session to a RIS text: its entries are added, with texts as they are or as LaTeX prints them, or why it gives no
+-- entries
+pub data HasImported (latex : Bool) (text : Text) (opened : SessionState) (answer : Answer) : Type 0 where
+  read : (a : Additions) → AreAdditions latex opened.steps.present text a → HasAdded a opened answer → HasImported latex text opened answer
+  unread : (fault : ImportFault) → fault ≢ import_fault.Memory → RefusesImport latex fault text → answer ≡ answer_of [] (import_fault_line fault) 1 → HasImported latex text opened answer
 
--- `import F`: the records of the text are added to the file as entries
-abbrev pub IsImportAnswer : Bool → Text → Option Text → Text → Answer → Type 0
-IsImportAnswer new_journal file journal input = AnswersSession new_journal (AnswersInput HasImported input) file journal
+-- `import F`: the records of the text are added to the file as entries; with `--latex` LaTeX prints their texts as they are
+abbrev pub IsImportAnswer : Bool → Bool → Text → Option Text → Text → Answer → Type 0
+IsImportAnswer latex new_journal file journal input = AnswersSession new_journal (AnswersInput (HasImported latex) input) file journal

@@ -68,16 +68,16 @@ pub data AsksEdits (command : Command) (input : Text) : List Request → Type 0 
   taken_back : command.all_or_nothing ≡ true → AsksEdits command input []
 
 -- the requests of `import`: one addition of all entries that its input says, or none if its input is too long or no RIS text
-pub data AsksAdditions (present input : Text) : List Request → Type 0 where
-  addition : (a : Additions) → AreAdditions present input a → AsksAdditions present input (request.Edit (AddMany a.entries) ∷ [])
-  no_text : (fault : ImportFault) → fault ≢ import_fault.Memory → RefusesImport fault input → AsksAdditions present input []
-  too_long : file_limit < length input → AsksAdditions present input []
+pub data AsksAdditions (latex : Bool) (present input : Text) : List Request → Type 0 where
+  addition : (a : Additions) → AreAdditions latex present input a → AsksAdditions latex present input (request.Edit (AddMany a.entries) ∷ [])
+  no_text : (fault : ImportFault) → fault ≢ import_fault.Memory → RefusesImport latex fault input → AsksAdditions latex present input []
+  too_long : file_limit < length input → AsksAdditions latex present input []
 
 -- The requests of each command to a session with this present file: those of `edit` and `import`; `n` undos or redos. `log`
 -- requests nothing, and the other commands open no session.
 abbrev pub Requests : Verb → Command → Text → Text → List Request → Type 0
 Requests Edit command present input = AsksEdits command input
-Requests Import command present input = AsksAdditions present input
+Requests Import command present input = AsksAdditions command.latex present input
 Requests Undo command present input = λ requests. requests ≡ replicate command.n request.Undo
 Requests Redo command present input = λ requests. requests ≡ replicate command.n request.Redo
 Requests Log command present input = λ requests. requests ≡ []

@@ -160,7 +160,8 @@ fn answer_verb(
         Verb::Cat => answer_cat(alloc, file),
         Verb::Lint => {
             let ignored = command.words_after_file();
-            answer_lint(alloc, command.word(0), file.as_slice(), ignored)
+            let cited = command.cited.as_slice();
+            answer_lint(alloc, command.word(0), file.as_slice(), ignored, cited)
         }
         Verb::Names => {
             let (key, template) = (command.word(1), command.word(2));
@@ -168,7 +169,7 @@ fn answer_verb(
         }
         Verb::Explain => answer_explain(alloc, command.word(0)),
         Verb::Edit => answer_whole(alloc, command, file, journal, input),
-        Verb::Import => answer_import(alloc, file, journal, new_journal, input),
+        Verb::Import => answer_import(alloc, file, journal, new_journal, input, command.latex),
         Verb::Undo => answer_undo(alloc, file, journal, command.n as usize),
         Verb::Redo => answer_redo(alloc, file, journal, command.n as usize),
         Verb::Log => answer_log(alloc, file, journal),
@@ -196,7 +197,10 @@ fn answer_question(
             answer_cite(alloc, file, keys, n, command.strict)
         }
         Question::Labels => answer_labels(alloc, file, command.words_after_file(), depth),
-        Question::Json => answer_json(alloc, file, command.words_after_file(), depth),
+        Question::Json => {
+            let keys = command.words_after_file();
+            answer_json(alloc, file, keys, depth, command.raw)
+        }
         Question::NewKeys => answer_newkeys(alloc, file, depth),
         Question::Ris => {
             let keys = command.words_after_file();

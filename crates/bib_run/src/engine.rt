@@ -20,8 +20,9 @@ use std::io::{Read, Write};
 /// Runs a command over its file, its journal, its input and its output. It reads the file to its end or to one byte
 /// past the limit, and keeps one copy of it in memory, beside what the command makes of it. It does the same with the
 /// journal, if there is one, and the input, for the commands that read them. It makes interrupted calls again, up to
-/// 100 times on each tap. It runs out of memory only before anything is written. It reads no aux files: whoever runs a command
-/// that names some adds the keys that they cite to its words first.
+/// 100 times on each tap. It runs out of memory only before anything is written. It reads no aux files, and no files that
+/// are named before or after F: whoever runs a command that names aux files adds the keys that they cite to its words first, or for
+/// `lint` hands on the keys with their places, and a command over several files is run by `run_shelf` of `shelf_run`.
 pub fn run<F: Read, J: Read, I: Read, W: Write>(
     alloc: Global,
     command: &Command,

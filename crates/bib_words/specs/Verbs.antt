@@ -62,7 +62,7 @@ abbrev pub shape : Verb → Shape
 shape (Asks question) = question_shape question
 shape Cat = record alone { least = 0 }
 shape Names = record { least = 3; most = Some 3; number = false; depth = true; aux = false }
-shape Lint = record alone { most = None }
+shape Lint = record alone { most = None; aux = true }
 shape Edit = record alone { most = None }
 shape Undo = with_number
 shape Redo = with_number
@@ -113,6 +113,16 @@ takes_scripts _ = false
 abbrev pub takes_strict : Verb → Bool
 takes_strict (Asks Cite) = true
 takes_strict _ = false
+
+-- the commands that take `--latex`
+abbrev pub takes_latex : Verb → Bool
+takes_latex Import = true
+takes_latex _ = false
+
+-- the commands that take `--raw`
+abbrev pub takes_raw : Verb → Bool
+takes_raw (Asks Json) = true
+takes_raw _ = false
 
 -- the commands that read other files too, before and after their own
 abbrev pub takes_others : Verb → Bool

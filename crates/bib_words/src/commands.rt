@@ -1,6 +1,7 @@
 //! A command as its words.
 
 use crate::verbs::{Shape, Verb};
+use aux_text::AuxKeys;
 use bib_text::{Seq, Text};
 
 /// The greatest number that a command takes.
@@ -10,9 +11,10 @@ const NUMBER_LIMIT: u32 = 65_535;
 const DEPTH_LIMIT: u8 = 8;
 
 /// A command: its name; its arguments in order, the file first if there is one, and for `lint` after it the codes to ignore;
-/// the names of the aux files that cite more keys, and of the files that are read before its own and after it; its number, and
-/// the depth of the records that it shows, each 0 if the command takes none; and whether its options `--print`, `--new-journal`, `--no-journal`, `--all-or-nothing`, `--dropped`,
-/// `--at` and `--strict` were given.
+/// the names of the aux files that cite more keys, and of the files that are read before its own and after it; for `lint`, the keys
+/// that the aux files cite, file by file, each with its place; its number, and the depth of the records that it shows, each 0 if the
+/// command takes none; and whether its options `--print`, `--new-journal`, `--no-journal`, `--all-or-nothing`, `--dropped`, `--at`,
+/// `--strict`, `--latex` and `--raw` were given.
 #[derive(Drop)]
 pub struct Command {
     pub name: Text,
@@ -20,6 +22,7 @@ pub struct Command {
     pub aux: Seq<Text>,
     pub before: Seq<Text>,
     pub after: Seq<Text>,
+    pub cited: Seq<AuxKeys>,
     pub n: u32,
     pub depth: u8,
     pub print: bool,
@@ -29,11 +32,13 @@ pub struct Command {
     pub dropped: bool,
     pub at: bool,
     pub strict: bool,
+    pub latex: bool,
+    pub raw: bool,
 }
 
 impl Command {
-    ghost use Rattle.std.specs.Prelude.{◌≡◌, ◌↔◌, ◌<◌, ◌≤◌, [], IsTrue, length, drop, slice_index_or};
-    ghost use Rattle.bib_words.specs.Verbs.{verb_of};
+    ghost use Rattle.std.specs.Prelude.{◌≡◌, ◌↔◌, ◌<◌, ◌≤◌, [], true, IsTrue, length, drop, slice_index_or};
+    ghost use Rattle.bib_words.specs.Verbs.{verb_of, takes_latex, takes_raw};
     ghost use Rattle.bib_words.specs.Command.{HasItsWords, HasItsOptions, has_others, AddsChange, MakesFile, IsCommand, ReadsJournal, TakesInput};
 
     /// Whether the command has this name. It takes no memory.
@@ -128,14 +133,25 @@ impl Command {
     fn has_its_options(&self, verb: Verb) -> bool
         ensures { IsTrue result ↔ HasItsOptions verb self.now }
     {
-        (!self.print || verb.makes_file())
-            && (!self.new_journal || verb.adds_change())
-            && (!self.no_journal || verb.adds_change())
-            && (!self.all_or_nothing || verb.takes_scripts())
-            && (!self.dropped || verb.takes_dropped())
-            && (!self.at || verb.takes_at())
-            && (!self.strict || verb.takes_strict())
-            && (!self.has_others() || verb.takes_others())
+        let are_to_change = is_allowed(self.print, verb.makes_file())
+            && is_allowed(self.new_journal, verb.adds_change())
+            && is_allowed(self.no_journal, verb.adds_change())
+            && is_allowed(self.all_or_nothing, verb.takes_scripts());
+        if !are_to_change {
+            return false;
+        }
+        is_allowed(self.dropped, verb.takes_dropped())
+            && is_allowed(self.at, verb.takes_at())
+            && is_allowed(self.strict, verb.takes_strict())
+            && self.has_its_forms(verb)
+            && is_allowed(self.has_others(), verb.takes_others())
+    }
+
+    /// Whether the command has each option that is given of those that say in which form fields are written.
+    fn has_its_forms(&self, verb: Verb) -> bool
+        ensures { IsTrue result ↔ ((self.now.latex ≡ true → takes_latex verb ≡ true) × (self.now.raw ≡ true → takes_raw verb ≡ true)) }
+    {
+        is_allowed(self.latex, verb.takes_latex()) && is_allowed(self.raw, verb.takes_raw())
     }
 
     /// Whether the command has as many arguments as this shape takes, and the number, the depth and the aux files that it
@@ -152,8 +168,15 @@ impl Command {
     }
 }
 
-ghost use Rattle.std.specs.Prelude.{◌≡◌, ◌↔◌, ◌≤◌, IsTrue, IfSome};
+ghost use Rattle.std.specs.Prelude.{◌≡◌, ◌↔◌, ◌≤◌, true, IsTrue, IfSome};
 ghost use Rattle.bib_words.specs.Command.{IsNumber, has_any, least_words};
+
+/// Whether an option is taken, if it is given.
+fn is_allowed(given: bool, taken: bool) -> bool
+    ensures { IsTrue result ↔ (given ≡ true → taken ≡ true) }
+{
+    !given || taken
+}
 
 /// Whether the list has a member.
 fn has_any(texts: &[Text]) -> bool

@@ -1,7 +1,7 @@
 //! The commands as data: what each takes and reads.
 
 ghost use Rattle.std.specs.Prelude.{◌≡◌, bytes_eq};
-ghost use Rattle.bib_words.specs.Verbs.{adds_change, makes_file, reads_journal, takes_input, takes_dropped, takes_at, takes_scripts, takes_strict, takes_others, question_shape, shape, verb_of};
+ghost use Rattle.bib_words.specs.Verbs.{adds_change, makes_file, reads_journal, takes_input, takes_dropped, takes_at, takes_scripts, takes_strict, takes_latex, takes_raw, takes_others, question_shape, shape, verb_of};
 
 /// A command that answers what its file says, and reads nothing else.
 #[derive(Clone, Copy, Debug, PartialEq, Eq)]
@@ -193,6 +193,20 @@ impl Verb {
         matches!(self, Verb::Asks(Question::Cite))
     }
 
+    /// Whether the command takes `--latex`.
+    pub fn takes_latex(self) -> bool
+        ensures { result ≡ takes_latex self }
+    {
+        matches!(self, Verb::Import)
+    }
+
+    /// Whether the command takes `--raw`.
+    pub fn takes_raw(self) -> bool
+        ensures { result ≡ takes_raw self }
+    {
+        matches!(self, Verb::Asks(Question::Json))
+    }
+
     /// Whether the command reads other files too, before and after its own.
     pub fn takes_others(self) -> bool
         ensures { result ≡ takes_others self }
@@ -217,7 +231,12 @@ impl Verb {
                 aux: false,
                 ..KEYS
             },
-            Verb::Lint | Verb::Edit => Shape {
+            Verb::Lint => Shape {
+                most: None,
+                aux: true,
+                ..ALONE
+            },
+            Verb::Edit => Shape {
                 most: None,
                 ..ALONE
             },

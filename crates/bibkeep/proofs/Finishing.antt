@@ -1,11 +1,13 @@
 -- How the program ends.
-use Rattle.std.proofs.Common.{◌≡◌, ℕ, Bool, true, false, Option, Some, None, option_map, refl, sym, ◌∙◌, ap₂, subst, if◌then◌else◌}
+use Rattle.std.proofs.Common.{◌≡◌, ℕ, List, Bool, true, false, Option, Some, None, option_map, refl, sym, ◌∙◌, ap₂, subst, if◌then◌else◌}
 use Rattle.bib_spec.specs.Text.{Text}
 use Rattle.bib_words.specs.declared.commands.Command.{Command}
 use Rattle.bib_answers.specs.declared.answers.Outcome.{Outcome}
 use Rattle.bib_run.specs.Runs.{TapView, TapsView, IsRun, taps, fresh}
 use Rattle.bib_files.specs.Folders.{Files, Told}
 use Rattle.bib_files.specs.Storing.{Paths, AreStored, AreUnstored}
+use Rattle.shelf_run.specs.Runs.{IsShelfRun}
+use Rattle.bibkeep.specs.Together.{RanTogether, all_names}
 use Rattle.bibkeep.specs.Ending.{RanHere, IsFinished, EndsFor, leaves_some}
 
 -- a tap that was not called yet
@@ -50,3 +52,13 @@ pub unstored_so : (paths : Option Paths) (at : Paths) (outcome : Outcome) (statu
     → IsFinished paths outcome status old new
 unstored_so paths at outcome status file old new place some is is_file told =
     IsFinished.unstored at place some is (subst (λ (f : Option Text). Told (AreUnstored at f) old new) is_file told)
+
+-- a run over several files, with a tap over standard output that was not called yet
+pub ran_together : (command : Command) (names texts : List Text) (out now : TapView) (outcome : Outcome) → names ≡ all_names command → out ≡ fresh None
+    → IsShelfRun command names texts out now outcome → RanTogether command outcome
+ran_together command names texts out now outcome of_command new ran = record {
+  texts = texts;
+  now = now;
+  ran = subst (λ (t : TapView). IsShelfRun command (all_names command) texts t now outcome) new
+      (subst (λ (ns : List Text). IsShelfRun command ns texts out now outcome) of_command ran);
+}

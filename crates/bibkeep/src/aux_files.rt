@@ -2,17 +2,15 @@
 
 ghost use Rattle.std.specs.Prelude.{◌≡◌, IfOk};
 ghost use Rattle.bib_words.specs.Command.{has_any};
-ghost use Rattle.bibkeep.specs.Citing.{citing};
+ghost use Rattle.bibkeep.specs.Citing.{citing, placing};
 
 use crate::disk::found;
-use aux_text::{Aux, with_cited};
-use bib_run::{SourceFault, Tap, read_up_to};
-use bib_streams::Heard;
+use crate::other_files::{FileFault, text_at, unread};
+use aux_text::{Aux, AuxKeys, cited_keys, with_cited};
 use bib_text::{Seq, Text, copied};
 use bib_words::Command;
 use std::alloc::{AllocError, Global};
 use std::collections::HashMap;
-use std::fs::File;
 use std::io::ErrorKind;
 use std::{fs, io, str};
 
@@ -25,16 +23,15 @@ const INPUT_LIMIT: usize = 65_535;
 /// Why it is not known what aux files cite.
 #[derive(Drop)]
 pub enum AuxFault {
-    Memory,
-    /// The file at this path could not be read, for this reason.
-    Unread(Text, ErrorKind),
+    /// One of them was not read.
+    File(FileFault),
     /// The file at this path is longer than 16,777,216 bytes.
     TooLong(Text),
 }
 
 impl From<AllocError> for AuxFault {
-    fn from(_error: AllocError) -> Self {
-        AuxFault::Memory
+    fn from(error: AllocError) -> Self {
+        AuxFault::File(error.into())
     }
 }
 
@@ -58,28 +55,99 @@ pub fn citing(alloc: Global, command: Command, cited: Vec<Text>) -> Result<Comma
     Ok(command)
 }
 
-/// The keys that the aux files with these names cite, in order, and those that the aux files cite that they name. Each file is
-/// read once. A file that is named by an aux file lies in the folder of the first one, and only regular files are read so: an
-/// aux file may come from a stranger.
-pub fn cited_in(rt: &HostRuntime, alloc: Global, names: &[Text]) -> Result<Vec<Text>, AuxFault> {
-    let mut known = HashMap::new(alloc);
-    let mut cited = Vec::new(alloc);
-    'names: for name in names {
-        add_cited(rt, alloc, name.as_slice(), &mut known, &mut cited)?;
+/// The command with the keys that these aux files cite, each with its place, beside its own words.
+pub fn placing(command: Command, cited: Vec<AuxKeys>) -> Command
+    ensures { result ≡ placing command cited.items }
+{
+    let mut command = command;
+    command.cited = Seq::from_vec(cited);
+    command
+}
+
+/// What is kept of aux files.
+trait Kept {
+    /// Adds what the aux file at this path says, the text of which this is.
+    fn add(
+        &mut self,
+        alloc: Global,
+        path: &[u8],
+        text: &[u8],
+        keys: Seq<Text>,
+    ) -> Result<(), AllocError>;
+}
+
+/// The keys alone.
+impl Kept for Vec<Text> {
+    fn add(
+        &mut self,
+        _alloc: Global,
+        _path: &[u8],
+        _text: &[u8],
+        keys: Seq<Text>,
+    ) -> Result<(), AllocError> {
+        self.append(&mut keys.into_vec())
     }
+}
+
+/// The keys of each file, with their places.
+impl Kept for Vec<AuxKeys> {
+    fn add(
+        &mut self,
+        alloc: Global,
+        path: &[u8],
+        text: &[u8],
+        _keys: Seq<Text>,
+    ) -> Result<(), AllocError> {
+        let file = copied(alloc, path)?;
+        let keys = cited_keys(alloc, text)?;
+        self.push(AuxKeys { file, keys })?;
+        Ok(())
+    }
+}
+
+/// The keys that the aux files with these names cite, in order, and those that the aux files cite that they name.
+pub fn cited_in(rt: &HostRuntime, alloc: Global, names: &[Text]) -> Result<Vec<Text>, AuxFault> {
+    let mut cited = Vec::new(alloc);
+    read_all(rt, alloc, names, &mut cited)?;
     Ok(cited)
+}
+
+/// The same keys, file by file, and where each of them stands.
+pub fn placed_in(
+    rt: &HostRuntime,
+    alloc: Global,
+    names: &[Text],
+) -> Result<Vec<AuxKeys>, AuxFault> {
+    let mut placed = Vec::new(alloc);
+    read_all(rt, alloc, names, &mut placed)?;
+    Ok(placed)
+}
+
+/// Keeps what the aux files with these names say, and those that they name. Each file is read once. A file that is named by an aux
+/// file lies in the folder of the first one, and only regular files are read so: an aux file may come from a stranger.
+fn read_all<K: Kept>(
+    rt: &HostRuntime,
+    alloc: Global,
+    names: &[Text],
+    kept: &mut K,
+) -> Result<(), AuxFault> {
+    let mut known = HashMap::new(alloc);
+    'names: for name in names {
+        add_cited(rt, alloc, name.as_slice(), &mut known, kept)?;
+    }
+    Ok(())
 }
 
 /// The paths of the files that were read.
 type Known = HashMap<String, bool>;
 
-/// Adds the keys that the aux file with this name cites, and those that the aux files cite that it names.
-fn add_cited(
+/// Keeps what the aux file with this name says, and those that it names.
+fn add_cited<K: Kept>(
     rt: &HostRuntime,
     alloc: Global,
     name: &[u8],
     known: &mut Known,
-    cited: &mut Vec<Text>,
+    kept: &mut K,
 ) -> Result<(), AuxFault> {
     let mut paths = alone(alloc, name)?;
     'paths: for n in 0..INPUT_LIMIT + 1 {
@@ -88,7 +156,7 @@ fn add_cited(
         };
         let text = match text_once(rt, alloc, path.as_slice(), n > 0, known) {
             Ok(text) => text,
-            Err(error) => return Err(unread(alloc, path.as_slice(), error.kind())),
+            Err(error) => return Err(AuxFault::File(unread(alloc, path.as_slice(), error.kind()))),
         };
         let Some(text) = text else {
             continue;
@@ -97,10 +165,10 @@ fn add_cited(
             return Err(AuxFault::TooLong(copied(alloc, path.as_slice())?));
         }
         let aux = Aux::read(alloc, text.as_slice())?;
-        cited.append(&mut aux.keys.into_vec())?;
+        kept.add(alloc, path.as_slice(), text.as_slice(), aux.keys)?;
         add_paths(alloc, &mut paths, folder_of(name), aux.inputs.as_slice())?;
     }
-    Err(unread(alloc, name, ErrorKind::FileTooLarge))
+    Err(AuxFault::File(unread(alloc, name, ErrorKind::FileTooLarge)))
 }
 
 /// The path with this name, alone in a list.
@@ -132,15 +200,7 @@ fn text_once(
     if is_input && !fs::metadata(rt, path)?.is_file() {
         return Err(ErrorKind::InvalidInput.into());
     }
-    let mut source = Tap::new(Heard::new(File::open(rt, path)?));
-    match read_up_to(alloc, &mut source, AUX_LIMIT + 1) {
-        Ok(text) => Ok(Some(text)),
-        Err(SourceFault::OutOfMemory) => Err(ErrorKind::OutOfMemory.into()),
-        Err(SourceFault::Failed) => match source.into_inner().error() {
-            Some(error) => Err(error),
-            None => Err(ErrorKind::InvalidInput.into()),
-        },
-    }
+    Ok(Some(text_at(rt, alloc, path, AUX_LIMIT + 1)?))
 }
 
 /// Adds the paths of the files with these names, which lie in this folder unless they begin with a slash.
@@ -176,14 +236,4 @@ fn path_in(alloc: Global, folder: Option<&str>, name: &[u8]) -> Result<Text, All
 fn folder_of(path: &[u8]) -> Option<&str> {
     let (folder, _) = str::from_utf8(path).ok()?.rsplit_once('/')?;
     Some(folder)
-}
-
-fn unread(alloc: Global, path: &[u8], kind: ErrorKind) -> AuxFault {
-    if kind == ErrorKind::OutOfMemory {
-        return AuxFault::Memory;
-    }
-    match copied(alloc, path) {
-        Ok(path) => AuxFault::Unread(path, kind),
-        Err(_) => AuxFault::Memory,
-    }
 }

@@ -67,8 +67,8 @@ pub fn end_without_memory<E: Write>(errors: &mut Tap<E>) -> u8
     end(errors, MEMORY, status::MEMORY)
 }
 
-/// The aux file at this path is longer than it may be.
-pub fn end_long_aux<E: Write>(errors: &mut Tap<E>, path: &[u8]) -> u8
+/// The file at this path is longer than it may be.
+pub fn end_long<E: Write>(errors: &mut Tap<E>, path: &[u8]) -> u8
     ensures { result ≡ 1 }
 {
     end_in(
@@ -79,8 +79,8 @@ pub fn end_long_aux<E: Write>(errors: &mut Tap<E>, path: &[u8]) -> u8
     )
 }
 
-/// The aux file at this path could not be read.
-pub fn end_unread_aux<E: Write>(errors: &mut Tap<E>, path: &[u8]) -> u8
+/// The file at this path could not be read.
+pub fn end_unread<E: Write>(errors: &mut Tap<E>, path: &[u8]) -> u8
     ensures { result ≡ 3 }
 {
     end_in(errors, b"bibkeep: read fault", path, status::FAULT)

@@ -2,35 +2,44 @@
 //! decided here: `bib_command` reads the words, and `bib_run` knows what a command does.
 #![tactic(auto)]
 
-ghost use Rattle.std.specs.Prelude.{◌≡◌, false, option_map};
+ghost use Rattle.std.specs.Prelude.{◌≡◌, ◌⊎◌, true, false, List, option_map};
 ghost use Rattle.std.specs.Option.{option_copied};
-ghost use Rattle.bib_words.specs.Command.{IsCommand};
+ghost use Rattle.bib_spec.specs.Text.{Text as FileText};
+ghost use Rattle.bib_words.specs.Command.{IsCommand, has_others};
 ghost use Rattle.bib_taps.specs.Taps.{tap_inner, has_failed};
 ghost use Rattle.bib_streams.specs.Heard.{heard_inner, kept_inner};
 ghost use Rattle.bib_run.specs.Runs.{fresh, view_of};
 ghost use Rattle.bibkeep.specs.Ending.{RanHere, RanAndFinished, RanAlone, EndsFor};
+ghost use Rattle.bib_shelf.specs.Joined.{AreJoined};
 ghost use Rattle.bibkeep.specs.Citing.{EndsCiting};
+ghost use Rattle.bibkeep.specs.Together.{all_names, RanTogether};
 
 mod aux_files;
 mod disk;
 mod endings;
 mod opening;
+mod other_files;
 mod saying;
 mod storing;
 
-use aux_files::{AuxFault, cited_in, citing, names_any};
+use aux_files::{AuxFault, cited_in, citing, names_any, placed_in, placing};
 use bib_command::{Request, parse_request};
 use bib_files::{Folder, Paths};
-use bib_run::{Tap, WRITE_FAULT, run};
+use bib_run::{Outcome, Tap, WRITE_FAULT, run};
 use bib_streams::{Heard, Kept};
+use bib_text::Text;
 use bib_words::{Command, status};
 use disk::Disk;
 use endings::{
-    end, end_long_aux, end_run, end_unknown, end_unopened, end_unread_aux, end_usage,
-    end_without_memory, end_without_words, errors, output,
+    end, end_long, end_run, end_unknown, end_unopened, end_unread, end_usage, end_without_memory,
+    end_without_words, errors, output,
 };
 use opening::{Journal, Opened, expect_room, open, stores};
-use saying::{Ran, Streams, invite, may_hint, say_hints, say_trouble, say_unstored, say_usage};
+use other_files::{FileFault, all_names, joined_files};
+use saying::{
+    Ran, Streams, invite, is_closed_by, may_hint, say_hints, say_trouble, say_unstored, say_usage,
+};
+use shelf_run::{Joined, run_shelf};
 use std::alloc::Global;
 use std::fs::File;
 use std::io::Read;
@@ -62,7 +71,7 @@ fn answer_words(rt: &HostRuntime, alloc: Global) -> u8 {
     }
 }
 
-/// Runs the command with the keys that its aux files cite, if it names any.
+/// Runs the command with the keys that its aux files cite, if it names any; `lint` with the place of each.
 fn answer(rt: &HostRuntime, alloc: Global, command: Command, hints: bool) -> u8
     requires { IsCommand command }
     ensures { EndsCiting command result }
@@ -70,16 +79,52 @@ fn answer(rt: &HostRuntime, alloc: Global, command: Command, hints: bool) -> u8
     if !names_any(command.aux.as_slice()) {
         return perform(rt, alloc, &command, hints);
     }
+    if command.is_named(b"lint") {
+        return match placed_in(rt, alloc, command.aux.as_slice()) {
+            Ok(cited) => perform_known(rt, alloc, &placing(command, cited), hints),
+            Err(fault) => end_without_aux(rt, alloc, &command, hints, fault),
+        };
+    }
     match cited_in(rt, alloc, command.aux.as_slice()) {
         Ok(cited) => match citing(alloc, command, cited) {
             Ok(command) => perform_known(rt, alloc, &command, hints),
             Err(_) => end_without_memory(&mut errors(rt)),
         },
-        Err(AuxFault::Memory) => end_without_memory(&mut errors(rt)),
-        Err(AuxFault::TooLong(path)) => end_long_aux(&mut errors(rt), path.as_slice()),
-        Err(AuxFault::Unread(path, kind)) => {
-            let status = end_unread_aux(&mut errors(rt), path.as_slice());
-            say_trouble(rt, alloc, &command, hints, path.as_slice(), kind);
+        Err(fault) => end_without_aux(rt, alloc, &command, hints, fault),
+    }
+}
+
+/// Says why it is not known what the aux files of the command cite.
+fn end_without_aux(
+    rt: &HostRuntime,
+    alloc: Global,
+    command: &Command,
+    hints: bool,
+    fault: AuxFault,
+) -> u8
+    ensures { EndsCiting command.now result }
+{
+    match fault {
+        AuxFault::File(fault) => end_unheard(rt, alloc, command, hints, &fault),
+        AuxFault::TooLong(path) => end_long(&mut errors(rt), path.as_slice()),
+    }
+}
+
+/// Says which file could not be read, and why.
+fn end_unheard(
+    rt: &HostRuntime,
+    alloc: Global,
+    command: &Command,
+    hints: bool,
+    fault: &FileFault,
+) -> u8
+    ensures { (result ≡ 3) ⊎ (result ≡ 4) }
+{
+    match fault {
+        FileFault::Memory => end_without_memory(&mut errors(rt)),
+        FileFault::Unread(path, kind) => {
+            let status = end_unread(&mut errors(rt), path.as_slice());
+            say_trouble(rt, alloc, command, hints, path.as_slice(), *kind);
             status
         }
     }
@@ -96,11 +141,14 @@ fn perform_known(rt: &HostRuntime, alloc: Global, command: &Command, hints: bool
 }
 
 /// Runs the command over the file that it names and its journal, or over standard input if it names no file; `explain`
-/// reads neither. What is new is put in its place. With `hints`, hints follow a message.
+/// reads neither; or over several files, if it names others. What is new is put in its place. With `hints`, hints follow a message.
 fn perform(rt: &HostRuntime, alloc: Global, command: &Command, hints: bool) -> u8
     requires { IsCommand command.now }
     ensures { EndsFor command.now result }
 {
+    if command.has_others() {
+        return run_together(rt, alloc, command, hints);
+    }
     if command.is_named(b"explain") {
         return run_alone(rt, alloc, command, hints, b"".as_slice());
     }
@@ -118,6 +166,61 @@ fn perform(rt: &HostRuntime, alloc: Global, command: &Command, hints: bool) -> u
             status
         }
     }
+}
+
+/// Runs the command over all its files as one, and says how it ended.
+fn run_together(rt: &HostRuntime, alloc: Global, command: &Command, hints: bool) -> u8
+    requires known { IsCommand command.now }
+    requires others { has_others command.now ≡ true }
+    ensures { EndsFor command.now result }
+{
+    let Ok(names) = all_names(alloc, command) else {
+        return end_without_memory(&mut errors(rt));
+    };
+    match joined_files(rt, alloc, names.as_slice()) {
+        Ok(files) => run_joined(rt, alloc, command, names.as_slice(), files),
+        Err(fault) => end_unheard(rt, alloc, command, hints, &fault),
+    }
+}
+
+/// Runs the command over these files, which have these names, and says how it ended.
+fn run_joined(
+    rt: &HostRuntime,
+    alloc: Global,
+    command: &Command,
+    names: &[Text],
+    files: Joined,
+) -> u8
+    requires known { IsCommand command.now }
+    requires others { has_others command.now ≡ true }
+    requires names { names.now ≡ all_names command.now }
+    requires joined { (texts : List FileText) × AreJoined texts files }
+    ensures { EndsFor command.now result }
+{
+    let (outcome, is_closed) = outcome_of_joined(rt, alloc, command, names, files);
+    end_run(&mut errors(rt), &outcome, is_closed)
+}
+
+/// The outcome of the command over these files, and whether the reader of the output was gone before its end.
+fn outcome_of_joined(
+    rt: &HostRuntime,
+    alloc: Global,
+    command: &Command,
+    names: &[Text],
+    files: Joined,
+) -> (Outcome, bool)
+    requires known { IsCommand command.now }
+    requires others { has_others command.now ≡ true }
+    requires names { names.now ≡ all_names command.now }
+    requires joined { (texts : List FileText) × AreJoined texts files }
+    ensures { RanTogether command.now result.0 }
+{
+    let mut out = output(rt, command.is_named(b"lint"));
+    let outcome = run_shelf(alloc, command, names, files, &mut out);
+    (
+        outcome,
+        is_closed_by(&out.into_inner().into_inner().error()),
+    )
 }
 
 /// Runs the command over a source that has no journal and no place for a new file.

@@ -55,10 +55,7 @@ impl Streams {
 
     /// Whether the output's reader was gone before its end.
     pub fn is_closed(&self) -> bool {
-        match &self.output_error {
-            Some(error) => error.kind() == ErrorKind::BrokenPipe,
-            None => false,
-        }
+        is_closed_by(&self.output_error)
     }
 
     /// On which stream a call failed, and why.
@@ -82,6 +79,14 @@ impl Streams {
             }),
             None => None,
         }
+    }
+}
+
+/// Whether the last call on the output that failed says that its reader was gone before its end.
+pub fn is_closed_by(error: &Option<io::Error>) -> bool {
+    match error {
+        Some(error) => error.kind() == ErrorKind::BrokenPipe,
+        None => false,
     }
 }
 

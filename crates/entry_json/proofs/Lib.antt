@@ -1,3 +1,4 @@
 mod ReadBack
 mod WrittenFields
 mod WrittenEntry
+mod RawFields

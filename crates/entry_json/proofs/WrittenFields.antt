@@ -2,8 +2,7 @@
 use Rattle.std.proofs.Common.{◌≡◌, ◌∙◌, ℕ, ◌+◌, ◌<◌, Bool, true, false, ◌&&◌, List, [], ◌∷◌, ◌++◌, length, take, drop, get_or, refl, sym, ap, append_assoc}
 use Rattle.std.specs.List.{flat_map}
 use Rattle.std.specs.Str.{is_utf8}
-use Rattle.std.proofs.lemmas.List.{take_more, take-append-drop}
-use Rattle.std.proofs.lemmas.Grind.{flat_map-append}
+use Rattle.std.proofs.lemmas.List.{flat_map_more, take_more, take-append-drop}
 use Rattle.json.specs.Token.{Token, end_object, key, string}
 use Rattle.json.specs.Tree.{members_tokens}
 use Rattle.bib_spec.specs.Records.{RecordField}
@@ -19,19 +18,24 @@ tokens_all [] = refl
 tokens_all (field ∷ fields) = ap (λ (ts : List Token). key field.0 ∷ string field.1 ∷ ts) (tokens_all fields)
 
 -- the fields up to a field are the fields before it, and that field
-take_next : (fields : List RecordField) (i : ℕ) (field : RecordField) → i < length fields → field ≡ get_or fields i field → take (i + 1) fields ≡ take i fields ++ field ∷ []
-take_next fields i field within is = take_more fields i field within ∙ ap (λ (f : RecordField). take i fields ++ f ∷ []) (sym is)
+take_next : {F : Type 0} (fields : List F) (i : ℕ) (d field : F) → i < length fields → field ≡ get_or fields i d → take (i + 1) fields ≡ take i fields ++ field ∷ []
+take_next {F} fields i d field within is = take_more fields i d within ∙ ap (λ (f : F). take i fields ++ f ∷ []) (sym is)
+
+-- the tokens of one more field
+pub tokens_next : {F : Type 0} (tokens : F → List Token) (start now : List Token) (fields : List F) (i : ℕ) (d field : F) → i < length fields → field ≡ get_or fields i d
+    → now ≡ start ++ flat_map tokens (take i fields) → now ++ tokens field ≡ start ++ flat_map tokens (take (i + 1) fields)
+tokens_next tokens start now fields i d field within at is =
+    ap (λ (ts : List Token). ts ++ tokens field) is
+    ∙ append_assoc start (flat_map tokens (take i fields)) (tokens field)
+    ∙ ap (λ (ts : List Token). start ++ ts)
+    (flat_map_more tokens [] (take i fields) field ∙ sym (ap (flat_map tokens) (take_next fields i d field within at)))
 
 -- one more field
 pub tokens_more : (start now : List Token) (fields : List RecordField) (i : ℕ) (field : RecordField) → i < length fields → field ≡ get_or fields i field
     → now ≡ start ++ flat_map field_tokens (take i fields)
     → (now ++ key field.0 ∷ []) ++ string field.1 ∷ [] ≡ start ++ flat_map field_tokens (take (i + 1) fields)
 tokens_more start now fields i field within at is =
-    append_assoc now (key field.0 ∷ []) (string field.1 ∷ [])
-    ∙ ap (λ (ts : List Token). ts ++ field_tokens field) is
-    ∙ append_assoc start (flat_map field_tokens (take i fields)) (field_tokens field)
-    ∙ ap (λ (ts : List Token). start ++ ts)
-    (sym (flat_map-append field_tokens (take i fields) (field ∷ [])) ∙ sym (ap (flat_map field_tokens) (take_next fields i field within at)))
+    append_assoc now (key field.0 ∷ []) (string field.1 ∷ []) ∙ tokens_next field_tokens start now fields i field field within at is
 
 and_assoc : (a b c : Bool) → ((a && b) && c) ≡ (a && (b && c))
 and_assoc true b c = refl
@@ -47,7 +51,7 @@ utf8-append (x ∷ xs) ys =
 utf8_next : (fields : List RecordField) (i : ℕ) (field : RecordField) (b : Bool) → i < length fields → field ≡ get_or fields i field → are_fields_utf8 (take i fields) ≡ true
     → are_fields_utf8 (field ∷ []) ≡ b → are_fields_utf8 (take (i + 1) fields) ≡ b
 utf8_next fields i field b within at before this =
-    ap are_fields_utf8 (take_next fields i field within at) ∙ utf8-append (take i fields) (field ∷ [])
+    ap are_fields_utf8 (take_next fields i field field within at) ∙ utf8-append (take i fields) (field ∷ [])
     ∙ ap (λ b. b && are_fields_utf8 (field ∷ [])) before ∙ this
 
 -- one more field that is UTF-8

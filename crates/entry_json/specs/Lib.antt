@@ -1,2 +1,3 @@
 pub mod EntryJson
+pub mod RawJson
 pub mod Laws

@@ -4,8 +4,10 @@
 
 mod fault;
 mod laws;
+mod raw;
 mod writing;
 
 pub use fault::JsonFault;
 pub use laws::entries_are_read_back;
+pub use raw::{RawEntry, Standing, WrittenField, add_raw_line};
 pub use writing::{add_line, add_line_in};

@@ -15,7 +15,7 @@ use json::Writer;
 use std::str;
 
 /// The bytes as characters.
-fn utf8(bytes: &[u8]) -> Result<&str, JsonFault>
+pub(crate) fn utf8(bytes: &[u8]) -> Result<&str, JsonFault>
     ensures text { IfOk result (λ text. (is_utf8 bytes.now ≡ true) × (text.now ≡ bytes.now)) }
     ensures fault { IfErr result (λ fault. (fault ≢ Memory) × (is_utf8 bytes.now ≡ false)) }
 {
@@ -26,7 +26,7 @@ fn utf8(bytes: &[u8]) -> Result<&str, JsonFault>
 }
 
 /// Writes a string.
-fn write_string(writer: &mut Writer, text: &[u8]) -> Result<(), JsonFault>
+pub(crate) fn write_string(writer: &mut Writer, text: &[u8]) -> Result<(), JsonFault>
     ensures before { writer.new.before ≡ writer.old.before }
     ensures text { OnOk result (writer.new.tokens ≡ writer.old.tokens ++ string text.now ∷ []) }
     ensures utf8 { OnOk result (is_utf8 text.now ≡ true) }
@@ -38,7 +38,7 @@ fn write_string(writer: &mut Writer, text: &[u8]) -> Result<(), JsonFault>
 }
 
 /// Writes a member of an object: its name, and its value, which is a string.
-fn write_member(writer: &mut Writer, name: &str, text: &[u8]) -> Result<(), JsonFault>
+pub(crate) fn write_member(writer: &mut Writer, name: &str, text: &[u8]) -> Result<(), JsonFault>
     ensures before { writer.new.before ≡ writer.old.before }
     ensures text { OnOk result (writer.new.tokens ≡ (writer.old.tokens ++ key name.now ∷ []) ++ string text.now ∷ []) }
     ensures utf8 { OnOk result (is_utf8 text.now ≡ true) }
@@ -49,7 +49,7 @@ fn write_member(writer: &mut Writer, name: &str, text: &[u8]) -> Result<(), Json
 }
 
 /// Writes the key of a parent, or null.
-fn write_parent(writer: &mut Writer, parent: Option<&[u8]>) -> Result<(), JsonFault>
+pub(crate) fn write_parent(writer: &mut Writer, parent: Option<&[u8]>) -> Result<(), JsonFault>
     ensures before { writer.new.before ≡ writer.old.before }
     ensures text { OnOk result (writer.new.tokens ≡ writer.old.tokens ++ json_tokens (parent_json (option_copied parent.entry))) }
     ensures utf8 { OnOk result (is_any_utf8 (option_copied parent.entry) ≡ true) }
@@ -90,7 +90,7 @@ fn write_fields(writer: &mut Writer, fields: &[(Text, Text)]) -> Result<(), Json
 }
 
 /// Writes the name of a file, if there is one, and the end of the object that has it.
-fn write_file(writer: &mut Writer, file: Option<&[u8]>) -> Result<(), JsonFault>
+pub(crate) fn write_file(writer: &mut Writer, file: Option<&[u8]>) -> Result<(), JsonFault>
     ensures before { writer.new.before ≡ writer.old.before }
     ensures text { OnOk result (writer.new.tokens ≡ writer.old.tokens ++ members_tokens (file_json (option_copied file.entry))) }
     ensures utf8 { OnOk result (is_any_utf8 (option_copied file.entry) ≡ true) }

@@ -22,6 +22,7 @@ pub mod OpaqueValues
 pub mod PeopleLaws
 -- ---- lines and records
 pub mod LineLaws
+pub mod EscapeLaws
 pub mod LeftOut
 pub mod SectionLaws
 pub mod MappingLaw

@@ -8,6 +8,7 @@ pub mod Pages
 pub mod Keywords
 pub mod Mapping
 pub mod Carried
+pub mod Escapes
 pub mod Profile
 pub mod Fitting
 pub mod Entry

@@ -4,6 +4,7 @@
 
 mod braces;
 mod dates;
+mod escaping;
 mod fault;
 mod fields;
 mod from_record;
@@ -22,8 +23,8 @@ mod to_record;
 pub use fault::MappingFault;
 pub use fields::ris_names;
 pub use from_record::{dropped_of, ris_of, to_ris, write_entry};
-pub use laws::{a_record_of_the_profile_is_kept, given_records_fit};
+pub use laws::{a_record_of_the_profile_is_kept, escaped_texts_balance, given_records_fit};
 pub use new_entry::{into_entry, to_entry};
 pub use profile::in_profile;
 pub use ris_text::{RisFault, RisFile, RisLine, RisRecord, read_ris, write_ris};
-pub use to_record::from_ris;
+pub use to_record::{from_ris, from_ris_as};

@@ -4,10 +4,12 @@ ghost use Rattle.std.specs.Prelude.{◌≡◌, ◌++◌, ◌∷◌, [], IfOk, If
 ghost use Rattle.ris_format.specs.Keywords.{read_keywords};
 ghost use Rattle.ris_format.specs.Lines.{values_at};
 ghost use Rattle.ris_format.specs.Mapping.{field, has_text, read_names, read_journal, read_booktitle, read_titles, read_numbers, read_publishers, read_notes, read_fields, record_in, back};
+ghost use Rattle.ris_format.specs.Escapes.{back_escaped, back_as};
 ghost use Rattle.ris_format.specs.People.{read_people};
 ghost use Rattle.ris_format.specs.declared.fault.MappingFault.TheVariants.{Memory};
 
 use crate::dates::{read_month, read_year};
+use crate::escaping::escaped_lines;
 use crate::fault::MappingFault;
 use crate::fields::{MOST_FIELDS, push_field, push_text};
 use crate::kinds::Kind;
@@ -211,4 +213,27 @@ pub fn from_ris(alloc: Global, ris: &RisRecord) -> Result<Record, MappingFault>
     }
     let lines = read_lines(alloc, lines)?;
     Ok(record_in(alloc, kind, lines.as_slice())?)
+}
+
+/// The record of a RIS record, where LaTeX prints each text as it is in RIS. The key and the texts of `url` and `doi` are
+/// copied.
+fn from_ris_escaped(alloc: Global, ris: &RisRecord) -> Result<Record, AllocError>
+    ensures { IfOk result (λ entry. entry ≡ back_escaped ris.now) }
+{
+    let kind = Kind::of_ris(ris.kind_name.as_slice());
+    let lines = escaped_lines(alloc, ris.lines.as_slice())?;
+    record_in(alloc, kind, lines.as_slice())
+}
+
+/// The record of a RIS record, as `from_ris` makes it; or, with `latex`, with texts that LaTeX prints as they are in RIS: in
+/// all texts except `url` and `doi`, a byte that LaTeX takes for a command is written so that LaTeX prints it
+/// (docs/FORMAT-RIS.md). It takes time in the record's size. The one refusal is want of memory.
+pub fn from_ris_as(alloc: Global, ris: &RisRecord, latex: bool) -> Result<Record, MappingFault>
+    ensures record { IfOk result (λ entry. entry ≡ back_as latex ris.now) }
+    ensures memory { IfErr result (λ fault. fault ≡ Memory) }
+{
+    if latex {
+        return Ok(from_ris_escaped(alloc, ris)?);
+    }
+    from_ris(alloc, ris)
 }

@@ -61,7 +61,10 @@ fn answer_verb(
 {
     match verb {
         Verb::Asks(question) => answer_question(alloc, question, command, names, files),
-        Verb::Lint => answer_lint(alloc, names, &files, command.words_after_file()),
+        Verb::Lint => {
+            let ignored = command.words_after_file();
+            answer_lint(alloc, names, &files, ignored, command.cited.as_slice())
+        }
         Verb::Names => answer_names(alloc, command, names, files),
         _ => unreachable!(),
     }
@@ -140,6 +143,7 @@ fn json_of(
         Some(&files),
         command.words_after_file(),
         command.depth,
+        command.raw,
     )
 }
 

@@ -7,27 +7,30 @@ ghost use Rattle.bib_shelf.specs.Faults.{AreAccepted, RefusesShelf};
 ghost use Rattle.shelf_run.specs.Answers.{LintsShelf};
 
 use crate::messages::name_of;
+use aux_text::AuxKeys;
 use bib_answers::{Answer, NamedFiles, lint_fault, lint_in};
 use bib_scan::{ReadFault, Text};
 use bib_shelf::{Joined, Shelf, ShelfFault, file_in};
 use bib_store::Paged;
 use std::alloc::{AllocError, Global};
 
-/// What is wrong with files with these names, read as one. Findings with one of the ignored codes are left out.
+/// What is wrong with files with these names, read as one, and which of the keys that these aux files cite no entry has. Findings
+/// with one of the ignored codes are left out.
 pub fn answer_lint(
     alloc: Global,
     names: &[Text],
     joined: &Joined,
     ignored: &[Text],
+    cited: &[AuxKeys],
 ) -> Result<Answer, AllocError>
     requires { (files : List FileText) × AreJoined files joined.now }
-    ensures { IfOk result (λ answer. (files : List FileText) → AreJoined files joined.now → LintsShelf ignored.now names.now files answer) }
+    ensures { IfOk result (λ answer. (files : List FileText) → AreJoined files joined.now → LintsShelf ignored.now cited.now names.now files answer) }
 {
     let (text, spans) = (joined.text.as_slice(), joined.spans.as_slice());
     match open_beside(alloc, joined) {
         Ok(shelf) => {
             let files = NamedFiles::new(names, text, spans);
-            lint_in(alloc, shelf.database(), &files, ignored)
+            lint_in(alloc, shelf.database(), &files, ignored, cited)
         }
         Err(fault) => {
             let read = ReadFault {

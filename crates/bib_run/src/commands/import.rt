@@ -23,19 +23,20 @@ use std::alloc::{AllocError, Global};
 /// The message of a RIS text where the braces of a record's text do not balance.
 const UNBALANCED_TEXT: &[u8] = b"bibkeep: 64 UnbalancedText\n";
 
-/// Adds the records of the input to the file, all at once.
+/// Adds the records of the input to the file, all at once; with `latex` LaTeX prints their texts as they are.
 pub fn answer_import(
     alloc: Global,
     file: Vec<u8>,
     journal: Option<&[u8]>,
     new_journal: bool,
     input: &[u8],
+    latex: bool,
 ) -> Result<Answer, AllocError>
-    ensures { IfOk result (IsImportAnswer new_journal file.items (option_map (λ text. text.now) journal.entry) input.now) }
+    ensures { IfOk result (IsImportAnswer latex new_journal file.items (option_map (λ text. text.now) journal.entry) input.now) }
 {
     match open_with(alloc, file, journal, new_journal) {
         Ok(mut session) => {
-            let answer = answer_records(alloc, &mut session, input);
+            let answer = answer_records(alloc, &mut session, input, latex);
             session.close();
             answer
         }
@@ -48,13 +49,14 @@ fn answer_records(
     alloc: Global,
     session: &mut Session<Paged>,
     input: &[u8],
+    latex: bool,
 ) -> Result<Answer, AllocError>
-    ensures { IfOk result (AnswersInput HasImported input.now session.old) }
+    ensures { IfOk result (AnswersInput (HasImported latex) input.now session.old) }
 {
     if input.len() > FILE_LIMIT {
         return too_long(alloc);
     }
-    import_into(alloc, session, input)
+    import_into(alloc, session, input, latex)
 }
 
 /// Adds the records of a text to the file of a session.
@@ -62,10 +64,11 @@ fn import_into(
     alloc: Global,
     session: &mut Session<Paged>,
     text: &[u8],
+    latex: bool,
 ) -> Result<Answer, AllocError>
-    ensures { IfOk result (HasImported text.now session.old) }
+    ensures { IfOk result (HasImported latex text.now session.old) }
 {
-    match import(alloc, session.database(), text) {
+    match import(alloc, session.database(), text, latex) {
         Ok(additions) => add(alloc, session, additions),
         Err(fault) => unread(alloc, fault),
     }

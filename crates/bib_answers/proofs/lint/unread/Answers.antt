@@ -5,4 +5,4 @@ use Rattle.bib_answers.proofs.lint.unread.Goals as goal
 pub returns : goal.returns
 returns c =
     let told = sym c.is_memory.ensures ∙ c.if-is_memory.false in
-    IfOk-weaker c.lint_fault.result _ _ (λ answer h ignored. fault_answer ignored c.args.name.now c.args.file.now c.args.fault answer told c.requires h) c.lint_fault.ensures
+    IfOk-weaker c.lint_fault.result _ _ (λ answer h ignored cited. fault_answer ignored cited c.args.name.now c.args.file.now c.args.fault answer told c.requires h) c.lint_fault.ensures

@@ -17,8 +17,8 @@ returns-in-Ok c = IfOk-weaker c.lint_in.result _ _ (λ answer h files are.
     let same = c.database.ensures ∙ ap (λ (j : Joined). j.text) c.in-Ok.ensures.opened ∙ are.text in
     let named = c.new-files.ensures files (record { text = c.as_slice-text.ensures ∙ are.text; spans = c.as_slice-spans.ensures ∙ are.spans }) in
     linted db accepted.opens.1 accepted
-    (subst (λ (t : Text). OfReading t (λ r. answer ≡ files_answer c.args.ignored.now c.new-files.result.names c.new-files.result.files r)) same h db accepted.opens.1.reads
-    ∙ ap (λ (f : NamedFiles). files_answer c.args.ignored.now f.names f.files db) named))
+    (subst (λ (t : Text). OfReading t (λ r. answer ≡ files_answer c.args.ignored.now c.args.cited.now c.new-files.result.names c.new-files.result.files r)) same h db accepted.opens.1.reads
+    ∙ ap (λ (f : NamedFiles). files_answer c.args.ignored.now c.args.cited.now f.names f.files db) named))
     c.lint_in.ensures
 
 pub returns-else-is_memory : goal.returns-else-is_memory

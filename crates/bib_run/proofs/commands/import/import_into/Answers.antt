@@ -5,7 +5,7 @@ use Rattle.bib_run.proofs.commands.import.import_into.Goals as goal
 pub returns-in-Ok : goal.returns-in-Ok
 returns-in-Ok c =
     IfOk-weaker c.add.result _ _
-    (λ answer h. read c.in-Ok.additions (subst (λ (file : Text). AreAdditions file c.args.text.now c.in-Ok.additions) c.database.ensures c.in-Ok.ensures.additions) h)
+    (λ answer h. read c.in-Ok.additions (subst (λ (file : Text). AreAdditions c.args.latex file c.args.text.now c.in-Ok.additions) c.database.ensures c.in-Ok.ensures.additions) h)
     c.add.ensures
 
 pub returns-in-Err : goal.returns-in-Err
