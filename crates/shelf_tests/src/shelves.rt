@@ -178,17 +178,3 @@ fn a_comment_like_a_seam_is_an_item_of_its_file(rt: HostRuntime) -> Result<(), F
     assert!(rt; items(alloc, files, 1)? == Some((2, 2)));
     Ok(())
 }
-
-#[test]
-fn many_empty_files_are_one_shelf(rt: HostRuntime) -> Result<(), Fail> {
-    let alloc = rt.alloc();
-    let mut files: Vec<&[u8]> = Vec::new(alloc);
-    for _ in 0..65_535 {
-        files.push(b"")?;
-    }
-    // the items are the comments between the files
-    assert!(rt; counts(alloc, files.as_slice())? == (65_534, 0));
-    assert!(rt; items(alloc, files.as_slice(), 65_534)? == Some((65_534, 0)));
-    assert!(rt; located(alloc, files.as_slice(), 720_874)? == (65_534, 0));
-    Ok(())
-}
