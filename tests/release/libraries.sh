@@ -29,8 +29,17 @@ answers_with_musl() {
     export processor="${1%-linux}" library="$root/crates/bib_c/out/release/library-$1" machine="$2" emulator kit
     export libc="${MUSL-}/usr/lib/$processor-linux-musl" lld="$kit/toolchain/bin/ld.lld"
     when_shell_runs '"$kit/toolchain/bin/clang" --target="$processor-linux-musl" --sysroot="$kit/toolchain" --no-default-config -nostdinc -isystem "${MUSL-}/usr/include/$processor-linux-musl" -I"$library" -std=c11 -O1 -fPIE -Wall -Wextra -Werror -c "$root/tests/c/test.c" -o test.o'; ends_with 0; says_nothing
-    when_shell_runs '"$lld" -m $machine -static -pie --no-dynamic-linker -o archived "$libc/rcrt1.o" "$libc/crti.o" test.o "$library/libbibkeep.a" "$libc/libc.a" "$libc/crtn.o"'; ends_with 0; says_nothing
-    add_cases_of $emulator ./archived
+    # on 64-bit ARM what musl's archive prints numbers with needs the compiler's own library
+    export runtime=
+    if [ "$1" = aarch64-linux ]; then
+        runtime=$(find /usr/lib/gcc-cross/aarch64-linux-gnu -name libgcc.a 2>/dev/null | head -n 1)
+    fi
+    if [ "$1" = aarch64-linux ] && [ -z "$runtime" ]; then
+        left_out "calls of the archive for $1: there is no libgcc.a, of the package libgcc-12-dev-arm64-cross"
+    else
+        when_shell_runs '"$lld" -m $machine -static -pie --no-dynamic-linker -o archived "$libc/rcrt1.o" "$libc/crti.o" test.o "$library/libbibkeep.a" "$libc/libc.a" $runtime "$libc/crtn.o"'; ends_with 0; says_nothing
+        add_cases_of $emulator ./archived
+    fi
     when_shell_runs '"$lld" -m $machine -pie --dynamic-linker="$libc/libc.so" -rpath="$library" -o shared "$libc/Scrt1.o" "$libc/crti.o" test.o "$library/libbibkeep.so.0" "$libc/libc.so" "$libc/crtn.o"'; ends_with 0; says_nothing
     add_cases_of $emulator ./shared
 }
