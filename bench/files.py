@@ -76,6 +76,11 @@ def database(size):
     return as_many(size, item)
 
 
+def other_database(size):
+    """A database of at most `size` bytes that has no key and no macro of the others."""
+    return as_many(size, lambda n: item(n + 1000000))
+
+
 def library(size):
     """A database of at most `size` bytes whose macros are defined at its top, as most are."""
     macros = b"".join(macro(n).encode() for n in range(0, size // 250, 97))
@@ -151,6 +156,12 @@ def moves(count):
     """A script of so many edits: each moves an article to a place among the first 5,000 items."""
     keys = articles(5000)
     return b"".join(b"move\tkey%d\t%d\n" % (keys[n % len(keys)], n * 53 % 5000) for n in range(count))
+
+
+def moves_beside(count):
+    """A script of so many edits: each moves an article to the place after another one."""
+    keys = articles(5000)
+    return b"".join(b"move\tkey%d\tafter:key%d\n" % (keys[n % len(keys)], keys[(n * 53 + 1) % len(keys)]) for n in range(count))
 
 
 def moves_in_turn(count):
@@ -420,6 +431,8 @@ OF_ONE_KIND = [(name, file) for name, file, _, _ in KINDS]
 CONTENTS = {
     "4.bib": lambda: database(4000000),
     "16.bib": lambda: database(16000000),
+    "8.bib": lambda: database(8000000),
+    "8.bib and another": lambda: database(8000000) + other_database(8000000),
     "library 4": lambda: library(4000000),
     "library 8": lambda: library(8000000),
     "library 16": lambda: library(16000000),

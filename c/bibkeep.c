@@ -26,7 +26,7 @@ typedef struct {
 typedef struct {
     uint32_t n;
     uint8_t depth;
-    bool print, new_journal, no_journal, all_or_nothing, dropped, at, strict, raw;
+    bool print, new_journal, no_journal, all_or_nothing, dropped, at, strict, latex, raw;
 } core_options;
 
 bool bib_c_new(core_handle *);
@@ -49,6 +49,9 @@ void bib_c_entry(core_handle *, const uint8_t *key, size_t, uint8_t depth, core_
 uint8_t bib_c_run(core_handle *, const uint8_t *name, size_t, const uint8_t *words, size_t, const size_t *lens, size_t,
                   const uint8_t *aux, size_t, const size_t *aux_lens, size_t, const core_options *, const uint8_t *file, size_t,
                   bool has_journal, const uint8_t *journal, size_t, const uint8_t *input, size_t);
+uint8_t bib_c_run_files(core_handle *, const uint8_t *name, size_t, const uint8_t *words, size_t, const size_t *lens, size_t,
+                        const uint8_t *aux, size_t, const size_t *aux_lens, size_t, const core_options *, const uint8_t *names,
+                        size_t, const size_t *name_lens, size_t, const uint8_t *files, size_t, const size_t *file_lens, size_t);
 bool bib_c_text_len(core_handle *, uint32_t which, size_t *len);
 bool bib_c_text_copy(core_handle *, uint32_t which, uint8_t *to, size_t);
 
@@ -100,6 +103,7 @@ const char *bibkeep_error_name(int number) {
     case 39: return "Referred";
     case 40: return "WouldMerge";
     case 41: return "JournalFull";
+    case 46: return "NoScript";
     case 51: return "NothingToUndo";
     case 52: return "NothingToRedo";
     case 53: return "BadJournal";
@@ -215,22 +219,33 @@ static void add_word(flat_words *flat, bibkeep_bytes word) {
     flat->lens[flat->count++] = word.size;
 }
 
+static void unflatten(flat_words *flat) {
+    free(flat->text);
+    free(flat->lens);
+    *flat = (flat_words){NULL, 0, NULL, 0};
+}
+
+/* Makes room for words of this size together. It fails only if memory runs out. */
+static int make_room(flat_words *flat, size_t size, size_t count) {
+    if (count > SIZE_MAX / sizeof(size_t) - 1)
+        return BIBKEEP_MEMORY;
+    *flat = (flat_words){malloc(size + 1), 0, malloc((count + 1) * sizeof(size_t)), 0};
+    if (flat->text && flat->lens)
+        return BIBKEEP_OK;
+    unflatten(flat);
+    return BIBKEEP_MEMORY;
+}
+
 /* Joins the words, after a first one if there is one. It fails only if memory runs out. */
 static int flatten(flat_words *flat, const bibkeep_bytes *first, const bibkeep_bytes *words, size_t count) {
     size_t size = first ? first->size : 0;
-    if (count > SIZE_MAX / sizeof(size_t) - 2)
-        return BIBKEEP_MEMORY;
     for (size_t i = 0; i < count; i++) {
         if (words[i].size > SIZE_MAX / 2 - size)
             return BIBKEEP_MEMORY;
         size += words[i].size;
     }
-    *flat = (flat_words){malloc(size + 1), 0, malloc((count + 1) * sizeof(size_t)), 0};
-    if (!flat->text || !flat->lens) {
-        free(flat->text);
-        free(flat->lens);
+    if (make_room(flat, size, count))
         return BIBKEEP_MEMORY;
-    }
     if (first)
         add_word(flat, *first);
     for (size_t i = 0; i < count; i++)
@@ -238,9 +253,24 @@ static int flatten(flat_words *flat, const bibkeep_bytes *first, const bibkeep_b
     return BIBKEEP_OK;
 }
 
-static void unflatten(flat_words *flat) {
-    free(flat->text);
-    free(flat->lens);
+/* How many words a text has with a NUL between two of them. */
+static size_t count_joined(const char *words, size_t size) {
+    size_t count = 1;
+    for (size_t i = 0; i < size; i++)
+        count += words[i] == 0;
+    return count;
+}
+
+/* Takes such a text apart. It fails only if memory runs out. */
+static int split(flat_words *flat, const char *words, size_t size, size_t count) {
+    if (make_room(flat, size, count))
+        return BIBKEEP_MEMORY;
+    for (size_t from = 0, at = 0; flat->count < count; from = ++at) {
+        while (at < size && words[at] != 0)
+            at++;
+        add_word(flat, (bibkeep_bytes){words + from, at - from});
+    }
+    return BIBKEEP_OK;
 }
 
 /* ---- sessions ---- */
@@ -263,6 +293,19 @@ int bibkeep_edit(bibkeep *handle, const bibkeep_bytes *words, size_t count, bibk
     flat_words flat;
     forget(handle);
     if (flatten(&flat, NULL, words, count))
+        return tell(error, refusal(BIBKEEP_MEMORY));
+    bib_c_edit(&handle->core, flat.text, flat.size, flat.lens, flat.count, &report);
+    unflatten(&flat);
+    return tell(error, report);
+}
+
+int bibkeep_edit_joined(bibkeep *handle, const char *words, int size, int count, bibkeep_error *error) {
+    core_report report = {0};
+    flat_words flat;
+    forget(handle);
+    if (size < 0 || count < 0 || (size_t)count != count_joined(words, (size_t)size))
+        return tell(error, refusal(BIBKEEP_MISUSE));
+    if (split(&flat, size ? words : "", (size_t)size, (size_t)count))
         return tell(error, refusal(BIBKEEP_MEMORY));
     bib_c_edit(&handle->core, flat.text, flat.size, flat.lens, flat.count, &report);
     unflatten(&flat);
@@ -380,15 +423,35 @@ static core_report fault_of(bibkeep_bytes message, int status) {
 
 static const bibkeep_answer no_answer = {4, {NULL, 0}, {NULL, 0}, 0, {NULL, 0}, 0, {NULL, 0}};
 
+static core_options core_of(const bibkeep_options *given) {
+    return (core_options){given->number,           (uint8_t)given->depth,      given->print != 0,
+                          given->new_journal != 0, given->no_journal != 0,     given->all_or_nothing != 0,
+                          given->dropped != 0,     given->at != 0,             given->strict != 0,
+                          given->latex != 0,       given->raw != 0};
+}
+
+/* Gives out what a command gave, and tells what came of it. */
+static int answered(bibkeep *handle, bibkeep_answer *answer, bibkeep_error *error) {
+    int is_there;
+    if (take(handle, OUTPUT, &answer->output, &is_there) || take(handle, MESSAGE, &answer->message, &is_there) ||
+        take(handle, FILE_TEXT, &answer->file, &answer->has_file) ||
+        take(handle, JOURNAL, &answer->journal, &answer->has_journal)) {
+        forget(handle);
+        *answer = no_answer;
+    }
+    bib_c_forget(&handle->core);
+    return tell(error, fault_of(answer->message, answer->status));
+}
+
+static const bibkeep_options no_options;
+
 int bibkeep_run(bibkeep *handle, bibkeep_bytes command, const bibkeep_bytes *args, size_t count,
                 const bibkeep_options *options, bibkeep_bytes file, const bibkeep_bytes *journal, bibkeep_bytes input,
                 bibkeep_answer *answer, bibkeep_error *error) {
     static const bibkeep_bytes path = {"-", 1};
-    static const bibkeep_options none;
-    const bibkeep_options *given = options ? options : &none;
+    const bibkeep_options *given = options ? options : &no_options;
     bibkeep_bytes text = journal ? *journal : nothing;
     flat_words words, aux;
-    int is_there;
     *answer = no_answer;
     forget(handle);
     if (given->depth > 255) {
@@ -403,23 +466,56 @@ int bibkeep_run(bibkeep *handle, bibkeep_bytes command, const bibkeep_bytes *arg
         unflatten(&words);
         return tell(error, refusal(BIBKEEP_MEMORY));
     }
-    core_options core = {given->number,           (uint8_t)given->depth,      given->print != 0,
-                         given->new_journal != 0, given->no_journal != 0,     given->all_or_nothing != 0,
-                         given->dropped != 0,     given->at != 0,             given->strict != 0,
-                         given->raw != 0};
+    core_options core = core_of(given);
     answer->status = bib_c_run(&handle->core, at(command), command.size, words.text, words.size, words.lens, words.count, aux.text,
                                aux.size, aux.lens, aux.count, &core, at(file), file.size, journal != NULL, at(text), text.size,
                                at(input), input.size);
     unflatten(&words);
     unflatten(&aux);
-    if (take(handle, OUTPUT, &answer->output, &is_there) || take(handle, MESSAGE, &answer->message, &is_there) ||
-        take(handle, FILE_TEXT, &answer->file, &answer->has_file) ||
-        take(handle, JOURNAL, &answer->journal, &answer->has_journal)) {
-        forget(handle);
-        *answer = no_answer;
+    return answered(handle, answer, error);
+}
+
+/* The names of files, or their bytes, one after another. It fails only if memory runs out. */
+static int flatten_files(flat_words *flat, const bibkeep_named *files, size_t count, bool names) {
+    size_t size = 0;
+    for (size_t i = 0; i < count; i++) {
+        size_t more = names ? files[i].name.size : files[i].text.size;
+        if (more > SIZE_MAX / 2 - size)
+            return BIBKEEP_MEMORY;
+        size += more;
     }
-    bib_c_forget(&handle->core);
-    return tell(error, fault_of(answer->message, answer->status));
+    if (make_room(flat, size, count))
+        return BIBKEEP_MEMORY;
+    for (size_t i = 0; i < count; i++)
+        add_word(flat, names ? files[i].name : files[i].text);
+    return BIBKEEP_OK;
+}
+
+int bibkeep_run_files(bibkeep *handle, bibkeep_bytes command, const bibkeep_bytes *args, size_t count,
+                      const bibkeep_options *options, const bibkeep_named *files, size_t file_count, bibkeep_answer *answer,
+                      bibkeep_error *error) {
+    const bibkeep_options *given = options ? options : &no_options;
+    flat_words words = {0}, aux = {0}, names = {0}, texts = {0};
+    *answer = no_answer;
+    forget(handle);
+    if (given->depth > 255 || file_count == 0) {
+        answer->status = 2;
+        return tell(error, refusal(BIBKEEP_MISUSE));
+    }
+    if (flatten(&words, &files[0].name, args, count) || flatten(&aux, NULL, given->aux, given->aux_count) ||
+        flatten_files(&names, files, file_count, true) || flatten_files(&texts, files, file_count, false)) {
+        answer->status = 4;
+    } else {
+        core_options core = core_of(given);
+        answer->status = bib_c_run_files(&handle->core, at(command), command.size, words.text, words.size, words.lens, words.count,
+                                         aux.text, aux.size, aux.lens, aux.count, &core, names.text, names.size, names.lens,
+                                         names.count, texts.text, texts.size, texts.lens, texts.count);
+    }
+    unflatten(&words);
+    unflatten(&aux);
+    unflatten(&names);
+    unflatten(&texts);
+    return answer->status == 4 ? tell(error, refusal(BIBKEEP_MEMORY)) : answered(handle, answer, error);
 }
 
 static int read_only(bibkeep *handle, const char *name, bibkeep_bytes file, const bibkeep_bytes *args, size_t count,

@@ -4,7 +4,7 @@
 # run a command that stands in it, and what is offered is quoted for the shell.
 
 _bibkeep() {
-    local commands='cat check lint show entry cite labels json names newkeys edit undo redo log forget ris extract import explain help'
+    local commands='cat check lint show entry cite labels json names newkeys edit undo redo log forget ris extract import insert merge diff explain help'
     local verbs='set drop add remove move set-type rename-key rename-macro inline introduce regenerate'
     local IFS=$' \t\n' words=() current='' begun='' quote='' tilde='' is_target='' own=() has_ended='' options='' i
 
@@ -51,6 +51,8 @@ _bibkeep() {
             ris) options='--depth --dropped --aux --before --after --hints --help' ;;
             extract) options='--aux --before --after --hints --help' ;;
             edit) options='--print --new-journal --no-journal --all-or-nothing --hints --help' ;;
+            insert) options='--print --new-journal --no-journal --hints --help' ;;
+            merge) options='--print --hints --help' ;;
             import) options='--print --new-journal --no-journal --latex --hints --help' ;;
             undo | redo) options='--steps --print --hints --help' ;;
             *) options='--hints --help' ;;
@@ -63,18 +65,21 @@ _bibkeep() {
         help:*) ;;
         explain:1) _bibkeep_offer < <(_bibkeep_faults) ;;
         explain:*) ;;
-        *:1) _bibkeep_offer_files ;;
+        *:1 | merge:2 | merge:3 | diff:2) _bibkeep_offer_files ;;
         show:2 | names:2 | entry:* | cite:* | labels:* | json:* | ris:* | extract:*) _bibkeep_offer < <(_bibkeep_keys "$file") ;;
+        insert:2) _bibkeep_offer < <(_bibkeep_positions "$file") ;;
         edit:2) _bibkeep_offer <<<"${verbs// /$'\n'}" ;;
         edit:3)
             case $verb in
                 set | drop | remove | move | rename-key) _bibkeep_offer < <(_bibkeep_keys "$file") ;;
                 inline | rename-macro) _bibkeep_offer < <(_bibkeep_macros "$file") ;;
+                add) _bibkeep_offer < <(_bibkeep_positions "$file") ;;
             esac
             ;;
         edit:4)
             case $verb in
                 set | drop) _bibkeep_offer < <(_bibkeep_fields "$file" "${own[3]}") ;;
+                move) _bibkeep_offer < <(_bibkeep_positions "$file") ;;
             esac
             ;;
     esac
@@ -198,6 +203,12 @@ _bibkeep_run() { command bibkeep "$1" -- "${@:2}" 2>/dev/null </dev/null; }
 
 _bibkeep_keys() { _bibkeep_run cite "$1" '*' | command cut -f 1; }
 
+# The positions beside entries, and the end.
+_bibkeep_positions() {
+    echo end
+    _bibkeep_keys "$1" | command sed 'h; s/^/before:/p; g; s/^/after:/'
+}
+
 # The fields of an entry, with those that it inherits.
 _bibkeep_fields() { _bibkeep_run show "$1" "$2" | command sed -n '2,$s/ = .*//p' | command grep -vx crossref; }
 
@@ -212,8 +223,8 @@ _bibkeep_faults() {
     local faults='1:Unended 2:ExpectedName 3:ExpectedEquals 4:ExpectedCommaOrClose 5:ExpectedValue 6:UnbalancedBrace 7:KeyTooLong
         8:TextTooLong 9:FileTooLong 10:Memory 11:NoSuchEntry 12:BadSplice 13:NoSuchFault 21:TooManyCommas 22:UnbalancedName
         23:BadTemplate 24:NotUtf8 31:BadKey 32:BadName 33:BadValue 34:BadPosition 35:NotFound 36:Ambiguous 37:KeyInUse
-        38:NameInUse 39:Referred 40:WouldMerge 41:JournalFull 51:NothingToUndo 52:NothingToRedo 53:BadJournal
-        54:JournalMismatch 55:StepOpen 56:NoOpenStep 61:NoStart 62:NoEnd 63:EmptyType 64:UnbalancedText 71:BadScript'
+        38:NameInUse 39:Referred 40:WouldMerge 41:JournalFull 46:NoScript 51:NothingToUndo 52:NothingToRedo
+        53:BadJournal 54:JournalMismatch 55:StepOpen 56:NoOpenStep 61:NoStart 62:NoEnd 63:EmptyType 64:UnbalancedText 71:BadScript'
     local list=() fault
     read -r -d '' -a list <<<"$faults"
     for fault in "${list[@]}"; do

@@ -52,6 +52,12 @@ function __bibkeep_keys
     __bibkeep_run cite '*' | cut -f 1
 end
 
+# The positions beside entries, and the end.
+function __bibkeep_positions
+    echo end
+    __bibkeep_keys | sed 'h; s/^/before:/p; g; s/^/after:/'
+end
+
 # The fields of the entry, with those that it inherits.
 function __bibkeep_fields
     set -l words (__bibkeep_words)
@@ -67,8 +73,8 @@ function __bibkeep_faults
     set -l faults 1:Unended 2:ExpectedName 3:ExpectedEquals 4:ExpectedCommaOrClose 5:ExpectedValue 6:UnbalancedBrace 7:KeyTooLong \
         8:TextTooLong 9:FileTooLong 10:Memory 11:NoSuchEntry 12:BadSplice 13:NoSuchFault 21:TooManyCommas 22:UnbalancedName \
         23:BadTemplate 24:NotUtf8 31:BadKey 32:BadName 33:BadValue 34:BadPosition 35:NotFound 36:Ambiguous 37:KeyInUse \
-        38:NameInUse 39:Referred 40:WouldMerge 41:JournalFull 51:NothingToUndo 52:NothingToRedo 53:BadJournal \
-        54:JournalMismatch 55:StepOpen 56:NoOpenStep 61:NoStart 62:NoEnd 63:EmptyType 64:UnbalancedText 71:BadScript
+        38:NameInUse 39:Referred 40:WouldMerge 41:JournalFull 46:NoScript 51:NothingToUndo 52:NothingToRedo \
+        53:BadJournal 54:JournalMismatch 55:StepOpen 56:NoOpenStep 61:NoStart 62:NoEnd 63:EmptyType 64:UnbalancedText 71:BadScript
     string replace : \t $faults
     if test -n (commandline -ct)
         string replace -r '.*:' '' $faults
@@ -97,14 +103,17 @@ complete -c bibkeep -n __fish_use_subcommand -a forget -d 'Starts a new journal,
 complete -c bibkeep -n __fish_use_subcommand -a ris -d 'Prints the entries that these keys cite as RIS, for reference managers'
 complete -c bibkeep -n __fish_use_subcommand -a extract -d 'Prints the part of the file that these keys need, byte for byte'
 complete -c bibkeep -n __fish_use_subcommand -a import -d 'Appends the RIS records on standard input as entries'
+complete -c bibkeep -n __fish_use_subcommand -a insert -d 'Puts the BibTeX text on standard input into the file, byte for byte'
+complete -c bibkeep -n __fish_use_subcommand -a merge -d 'Merges the changes that two sides made to one file, entry by entry'
+complete -c bibkeep -n __fish_use_subcommand -a diff -d 'Prints the edits that make the entries of one file those of another'
 complete -c bibkeep -n __fish_use_subcommand -a explain -d 'Explains a refusal: what it means, an example, what to do'
 complete -c bibkeep -n __fish_use_subcommand -a help -d 'Print this message or the help of the given subcommand(s)'
 
-complete -c bibkeep -n '__fish_seen_subcommand_from cat check lint show entry cite labels json names newkeys edit undo redo log forget ris extract import explain' -s h -l help -d 'Print help'
-complete -c bibkeep -n '__fish_seen_subcommand_from cat check lint show entry cite labels json names newkeys edit undo redo log forget ris extract import explain' -l hints -d 'Prints hints below a message, as on a terminal'
-complete -c bibkeep -n '__fish_seen_subcommand_from edit import undo redo' -l print -d 'Writes the new file to standard output, and stores nothing'
-complete -c bibkeep -n '__fish_seen_subcommand_from edit import' -l new-journal -d 'Begins a new journal if the old one is not a journal or does not fit the file'
-complete -c bibkeep -n '__fish_seen_subcommand_from edit import' -l no-journal -d 'Reads and writes no journal: this change cannot be undone, nor any before it'
+complete -c bibkeep -n '__fish_seen_subcommand_from cat check lint show entry cite labels json names newkeys edit undo redo log forget ris extract import insert merge diff explain' -s h -l help -d 'Print help'
+complete -c bibkeep -n '__fish_seen_subcommand_from cat check lint show entry cite labels json names newkeys edit undo redo log forget ris extract import insert diff merge explain' -l hints -d 'Prints hints below a message, as on a terminal'
+complete -c bibkeep -n '__fish_seen_subcommand_from edit import insert merge undo redo' -l print -d 'Writes the new file to standard output, and stores nothing'
+complete -c bibkeep -n '__fish_seen_subcommand_from edit import insert' -l new-journal -d 'Begins a new journal if the old one is not a journal or does not fit the file'
+complete -c bibkeep -n '__fish_seen_subcommand_from edit import insert' -l no-journal -d 'Reads and writes no journal: this change cannot be undone, nor any before it'
 complete -c bibkeep -n '__fish_seen_subcommand_from edit' -l all-or-nothing -d 'Stores nothing if a line of the script is refused'
 complete -c bibkeep -n '__fish_seen_subcommand_from import' -l latex -d 'Writes texts so that LaTeX prints them as they are, except url and doi'
 complete -c bibkeep -n '__fish_seen_subcommand_from entry' -l at -d 'Prints a line before each entry: the number of its item, counted from 0, its line and its column'
@@ -119,12 +128,17 @@ complete -c bibkeep -n '__fish_seen_subcommand_from json' -l raw -d 'Prints the 
 complete -c bibkeep -n '__fish_seen_subcommand_from cite' -l strict -d 'Ends with status 1 if a key is unknown'
 complete -c bibkeep -n '__fish_seen_subcommand_from lint' -l ignore -x -a 'undefined-macro own-macro repeated-field repeated-key missing-parent own-parent early-parent nested-parent no-key odd-key conflict-marker lost-entry lone-brace repeated-macro refused-name empty-crossref not-utf8 missing-key' -d 'Leaves out findings with this code; may be given several times'
 complete -c bibkeep -n '__fish_seen_subcommand_from cite' -l min-crossrefs -x -d 'How many cited entries must refer to a parent so that it is listed too, from 1 to 65535'
-complete -c bibkeep -n '__bibkeep_has 1 cat check lint show entry cite labels json names newkeys edit undo redo log forget ris extract import' -k -a '(__fish_complete_suffix .bib)'
+complete -c bibkeep -n '__bibkeep_has 1 cat check lint show entry cite labels json names newkeys edit undo redo log forget ris extract import insert diff' -k -a '(__fish_complete_suffix .bib)'
+complete -c bibkeep -n '__bibkeep_has 1 merge; or __bibkeep_has 2 merge; or __bibkeep_has 3 merge' -k -a '(__fish_complete_suffix .bib)'
+complete -c bibkeep -n '__bibkeep_has 2 diff' -k -a '(__fish_complete_suffix .bib)'
 complete -c bibkeep -n '__bibkeep_has 2 show names' -a '(__bibkeep_keys)'
 complete -c bibkeep -n '__bibkeep_has_at_least 2 entry cite labels json ris extract' -a '(__bibkeep_keys)'
 complete -c bibkeep -n '__bibkeep_has 2 edit' -a 'set drop add remove move set-type rename-key rename-macro inline introduce regenerate'
 complete -c bibkeep -n '__bibkeep_edits 3 set drop remove move rename-key' -a '(__bibkeep_keys)'
 complete -c bibkeep -n '__bibkeep_edits 3 inline rename-macro' -a '(__bibkeep_macros)'
+complete -c bibkeep -n '__bibkeep_has 2 insert' -a '(__bibkeep_positions)'
+complete -c bibkeep -n '__bibkeep_edits 3 add' -a '(__bibkeep_positions)'
+complete -c bibkeep -n '__bibkeep_edits 4 move' -a '(__bibkeep_positions)'
 complete -c bibkeep -n '__bibkeep_edits 4 set drop' -a '(__bibkeep_fields)'
 complete -c bibkeep -n '__bibkeep_has 1 explain' -a '(__bibkeep_faults)'
-complete -c bibkeep -n '__bibkeep_has 1 help' -a 'cat check lint show entry cite labels json names newkeys edit undo redo log forget ris extract import explain'
+complete -c bibkeep -n '__bibkeep_has 1 help' -a 'cat check lint show entry cite labels json names newkeys edit undo redo log forget ris extract import insert merge diff explain'

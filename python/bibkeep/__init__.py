@@ -13,7 +13,6 @@ b'@misc{a, t = 1,\\n  y = {2},}'
 b'@misc{a, t = 1,}'
 """
 
-from ._commands import Answer, Finding, Word, check, cite, extract, labels, lint, names, run, to_ris
 from ._core import library_version
 from ._errors import (
     EditError,
@@ -27,6 +26,23 @@ from ._errors import (
     UndoError,
 )
 from ._library import Entry, Library, loads
+
+TYPE_CHECKING = False
+if TYPE_CHECKING:
+    from ._commands import Answer, Finding, Word, check, cite, extract, labels, lint, names, run, run_files, to_ris
+else:
+
+    def __getattr__(name):
+        """The commands are loaded when one is first used: a program that only edits does without."""
+        if name not in __all__:
+            raise AttributeError(f"module {__name__!r} has no attribute {name!r}")
+        from . import _commands
+
+        return globals().setdefault(name, getattr(_commands, name))
+
+    def __dir__():
+        return sorted({*globals(), *__all__})
+
 
 open = Library.open
 
@@ -55,5 +71,6 @@ __all__ = [
     "names",
     "open",
     "run",
+    "run_files",
     "to_ris",
 ]

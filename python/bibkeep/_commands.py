@@ -1,26 +1,20 @@
-"""The commands of the program over bytes. None of them reads or writes a file."""
+"""The commands of the program over bytes. Only run_files reads files, and none writes one."""
 
 from __future__ import annotations
 
+import os
 from typing import Dict, Iterable, List, NamedTuple, Optional, Tuple, Union
 
-from ._core import Handle, Options
+from . import _running
+from ._core import Given, to_bytes, to_str
+
+__all__ = ["Answer", "Finding", "Word", "check", "cite", "extract", "labels", "lint", "names", "run", "run_files", "to_ris"]
 
 Word = Union[str, bytes]
 
 # What the program takes where an option is left out.
 _NUMBERS = {"cite": 2, "undo": 1, "redo": 1}
 _DEPTHS = {"show": 1, "labels": 1, "json": 1, "names": 1, "newkeys": 1, "ris": 1}
-
-
-def to_bytes(word: Word) -> bytes:
-    """The bytes of a word. A str is UTF-8, and a surrogate escape stands for a byte that is not."""
-    return word if isinstance(word, bytes) else word.encode("utf-8", "surrogateescape")
-
-
-def to_str(data: bytes) -> str:
-    """The text of bytes, the other way round."""
-    return data.decode("utf-8", "surrogateescape")
 
 
 class Answer(NamedTuple):
@@ -48,6 +42,7 @@ def run(
     dropped: bool = False,
     at: bool = False,
     strict: bool = False,
+    latex: bool = False,
     raw: bool = False,
     aux: Iterable[Word] = (),
     raises: bool = True,
@@ -55,10 +50,11 @@ def run(
     """Runs a command over the bytes of a file, and answers as the program does.
 
     ``number`` is that of ``--steps`` or ``--min-crossrefs``. ``aux`` names the aux files whose keys are among the arguments: no
-    file is read. A refusal raises an Error, unless ``raises`` is False. Status 1 of ``lint`` and of ``cite`` with ``strict`` is
-    no refusal.
+    file is read, so ``lint`` finds no key that a document cites and no entry has. A refusal raises an Error, unless ``raises`` is
+    False. Status 1 of ``lint``, of ``diff`` and of ``cite`` with ``strict`` is no refusal. ``diff`` takes the name of the new file,
+    by which messages call it, and the new file as ``input``.
     """
-    options = Options(
+    options = _running.Options(
         _NUMBERS.get(command, 0) if number is None else number,
         _DEPTHS.get(command, 0) if depth is None else depth,
         print,
@@ -68,15 +64,67 @@ def run(
         dropped,
         at,
         strict,
+        latex,
         raw,
     )
+    words, names = [to_bytes(arg) for arg in args], [to_bytes(name) for name in aux]
+    return _answer(_running.run(to_bytes(command), words, _within(options), names, data, journal, input), raises)
+
+
+def run_files(
+    command: str,
+    paths: Iterable[Union[Word, "os.PathLike[str]"]],
+    *args: Word,
+    number: Optional[int] = None,
+    depth: Optional[int] = None,
+    dropped: bool = False,
+    strict: bool = False,
+    raw: bool = False,
+    aux: Iterable[Word] = (),
+    raises: bool = True,
+) -> Answer:
+    """Runs a command that only reads over the files at these paths, in this order, which are read as one.
+
+    It answers as the program does if the options ``--before`` and ``--after`` name the files before and after its own: macros of one
+    file are seen in those after it, keys and parents are found in all. Messages, ``lint`` and ``json`` call each file by its path.
+    The command is ``check``, ``lint``, ``show``, ``cite``, ``labels``, ``json``, ``names``, ``newkeys``, ``ris`` or ``extract``. The
+    rest is as for ``run``; line and column of an Error are those of the file that its message names.
+    """
+    options = _running.Options(
+        number=_NUMBERS.get(command, 0) if number is None else number,
+        depth=_DEPTHS.get(command, 0) if depth is None else depth,
+        dropped=dropped,
+        strict=strict,
+        raw=raw,
+    )
+    words, names = [to_bytes(arg) for arg in args], [to_bytes(name) for name in aux]
+    files = [(os.fsencode(path), _read(path)) for path in paths]
+    return _answer(_running.run_files(to_bytes(command), words, _within(options), names, files), raises)
+
+
+def _read(path: Union[Word, "os.PathLike[str]"]) -> bytes:
+    with open(path, "rb") as file:
+        return file.read()
+
+
+def _within(options: _running.Options) -> _running.Options:
     if not (0 <= options.number < 1 << 32 and 0 <= options.depth < 1 << 32):
         raise ValueError("an argument is out of its range")
-    words, names = [to_bytes(arg) for arg in args], [to_bytes(name) for name in aux]
-    ran = Handle().run(to_bytes(command), words, options, names, data, journal, input)
+    return options
+
+
+def _answer(ran: _running.Ran, raises: bool) -> Answer:
     if raises and ran.fault is not None:
         raise ran.fault
     return Answer(*ran[:5])
+
+
+def run_over(file: Given, command: str, *args: str, depth: int = 0) -> bytes:
+    """What a command that only reads answers over what a handle gave, which is there until the next call with that handle."""
+    ran = _running.run(to_bytes(command), [to_bytes(arg) for arg in args], _running.Options(depth=depth), (), file, None, b"")
+    if ran.fault is not None:
+        raise ran.fault
+    return ran.output
 
 
 def _lines(output: bytes) -> List[str]:

@@ -2,7 +2,9 @@
 
 from __future__ import annotations
 
-from typing import Optional, Type
+TYPE_CHECKING = False
+if TYPE_CHECKING:
+    from typing import Optional, Type
 
 
 class Error(Exception):

@@ -6,34 +6,39 @@ stores F locks it first (``flock``), and so waits for others that do.
 
 from __future__ import annotations
 
-import contextlib
 import errno
 import fcntl
 import os
 import stat
-from typing import Iterator, List, NamedTuple, Optional, Tuple
+
+TYPE_CHECKING = False
+if TYPE_CHECKING:
+    from typing import Tuple, Union
+
+    Bytes = Union[bytes, memoryview]
+    # The bytes of a file and of its journal, or None where there is no journal.
+    Stored = Tuple[bytes, Union[bytes, None]]
 
 JOURNAL = ".bibkeep"
 NEW = ".bibkeep-new"
 # A file is opened so often at most, if others go on to replace it between opening and locking.
 ATTEMPTS = 100_000
+# So much of a file is in memory at a time while it is compared.
+PART = 1 << 18
 
 
-class Stored(NamedTuple):
-    """The bytes of a file and of its journal, or None where there is no journal."""
+class Locked:
+    """The file at the path, open and locked, for a block. If the file system has no locks, it is not locked."""
 
-    file: bytes
-    journal: Optional[bytes]
+    def __init__(self, path: str) -> None:
+        self._path = path
 
+    def __enter__(self) -> int:
+        self._descriptor = _open_locked(self._path)
+        return self._descriptor
 
-@contextlib.contextmanager
-def locked(path: str) -> Iterator[int]:
-    """The file at the path, open and locked. If the file system has no locks, it is not locked."""
-    descriptor = _open_locked(path)
-    try:
-        yield descriptor
-    finally:
-        os.close(descriptor)
+    def __exit__(self, *why: object) -> None:
+        os.close(self._descriptor)
 
 
 def _open_locked(path: str) -> int:
@@ -60,10 +65,23 @@ def _lock(descriptor: int) -> bool:
 
 def read(descriptor: int, path: str, journal: bool = True) -> Stored:
     """The bytes of the open file, and of its journal if that is asked for."""
-    return Stored(_whole(descriptor), read_journal(path + JOURNAL) if journal else None)
+    return _whole(descriptor), read_journal(path + JOURNAL) if journal else None
 
 
-def read_journal(path: str) -> Optional[bytes]:
+def is_as(stored: Stored, descriptor: int, path: str, journal: bool) -> bool:
+    """Whether read would give these bytes. Only a part of the file is in memory at a time."""
+    file, part, at = stored[0], memoryview(bytearray(PART)), 0
+    while True:
+        count = os.readv(descriptor, [part])
+        if not file.startswith(part[:count], at):
+            return False
+        if not count:
+            break
+        at += count
+    return at == len(file) and (read_journal(path + JOURNAL) if journal else None) == stored[1]
+
+
+def read_journal(path: str) -> bytes | None:
     """The bytes of the journal, or None if there is none. A link is read as an empty text, which is no journal."""
     try:
         found = os.lstat(path)
@@ -81,7 +99,7 @@ def read_journal(path: str) -> Optional[bytes]:
 
 
 def _whole(descriptor: int) -> bytes:
-    parts: List[bytes] = []
+    parts: list[bytes] = []
     while True:
         part = os.read(descriptor, 1 << 24)
         if not part:
@@ -89,14 +107,15 @@ def _whole(descriptor: int) -> bytes:
         parts.append(part)
 
 
-def store(descriptor: int, path: str, stored: Stored) -> None:
+def store(descriptor: int, path: str, file: Bytes, journal: Bytes | None) -> None:
     """Writes the file, and the journal if there is one, beside their places, and renames them, the file first. The permissions
     of the open file are kept, without its set-user-ID, set-group-ID and sticky bits."""
     old = os.fstat(descriptor)
-    _expect_room(old, path, stored)
+    _expect_room(old, path, journal is not None)
     mode = stat.S_IMODE(old.st_mode) & 0o777
-    pairs: Tuple[Tuple[str, Optional[bytes]], ...] = ((path, stored.file), (path + JOURNAL, stored.journal))
-    written, held = [], []
+    pairs: tuple[tuple[str, Bytes | None], ...] = ((path, file), (path + JOURNAL, journal))
+    written: list[str] = []
+    held: list[int] = []
     try:
         for place, data in pairs:
             if data is not None:
@@ -108,16 +127,23 @@ def store(descriptor: int, path: str, stored: Stored) -> None:
             written.pop(0)
     finally:
         for place in written:
-            with contextlib.suppress(OSError):
-                os.unlink(place + NEW)
+            _remove(place + NEW)
         for new in held:
             os.close(new)
 
 
-def _expect_room(old: os.stat_result, path: str, stored: Stored) -> None:
+def _remove(path: str) -> None:
+    """Removes a file, if that can be done."""
+    try:
+        os.unlink(path)
+    except OSError:
+        pass
+
+
+def _expect_room(old: os.stat_result, path: str, has_journal: bool) -> None:
     if not stat.S_ISREG(os.lstat(path).st_mode):
         raise OSError(errno.EINVAL, "only a regular file is replaced", path)
-    if stored.journal is None:
+    if not has_journal:
         return
     try:
         found = os.lstat(path + JOURNAL)
@@ -127,11 +153,13 @@ def _expect_room(old: os.stat_result, path: str, stored: Stored) -> None:
         raise OSError(errno.EINVAL, "the place of the journal has no file of its own", path + JOURNAL)
 
 
-def _write(path: str, data: bytes, mode: int) -> int:
+def _write(path: str, data: Bytes, mode: int) -> int:
     """Writes a new file, and returns it open and locked."""
-    # What an earlier run left is removed, even if it is a link: its target must not be written to.
-    with contextlib.suppress(FileNotFoundError):
+    try:
+        # What an earlier run left is removed, even if it is a link: its target must not be written to.
         os.unlink(path)
+    except FileNotFoundError:
+        pass
     descriptor = os.open(path, os.O_WRONLY | os.O_CREAT | os.O_EXCL | os.O_CLOEXEC, 0o600)
     try:
         _lock(descriptor)

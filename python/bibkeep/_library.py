@@ -2,19 +2,23 @@
 
 from __future__ import annotations
 
-import json
 import os
-import threading
-from contextlib import contextmanager
-from hashlib import sha256
-from typing import Any, Dict, Iterator, List, Mapping, NamedTuple, Optional, Tuple, Union
+from _collections_abc import Mapping
 
 from . import _files
-from ._commands import Word, run, to_bytes, to_str
-from ._core import Handle
+from ._core import Handle, to_bytes, to_str
 from ._errors import Error, FileChanged, NoSuchEntry
 
-Path = Union[str, "os.PathLike[str]"]
+TYPE_CHECKING = False
+if TYPE_CHECKING:
+    from threading import RLock
+    from typing import Any, ContextManager, Dict, Iterator, List, Optional, Tuple, Union
+
+    from ._core import Word
+
+    Path = Union[str, "os.PathLike[str]"]
+else:
+    from _thread import RLock
 
 
 class Entry(Mapping[str, str]):
@@ -45,17 +49,6 @@ class Entry(Mapping[str, str]):
         return f"<Entry @{self.type} {self.key}>"
 
 
-class _Digests(NamedTuple):
-    """What is known of the file and the journal that were read or stored last."""
-
-    file: bytes
-    journal: Optional[bytes]
-
-
-def _digests(stored: _files.Stored) -> _Digests:
-    return _Digests(sha256(stored.file).digest(), None if stored.journal is None else sha256(stored.journal).digest())
-
-
 class Library(Mapping[str, Entry]):
     """An open BibTeX file with its steps: a mapping of keys to entries, in the order of the file.
 
@@ -64,12 +57,12 @@ class Library(Mapping[str, Entry]):
     """
 
     def __init__(self, data: bytes = b"", journal: Optional[bytes] = None) -> None:
-        self._lock = threading.RLock()
+        self._lock = RLock()
         self._handle = Handle()
         self._handle.open(data, journal)
         self._path: Optional[str] = None
         self._has_journal = True
-        self._stored = _Digests(b"", None)
+        self._stored: _files.Stored = b"", None
         self._keys: Optional[List[str]] = None
         self._items: Optional[int] = None
 
@@ -81,23 +74,24 @@ class Library(Mapping[str, Entry]):
         With no_journal no journal is read or stored. It waits while another program that stores the file holds its lock.
         """
         path = os.path.realpath(os.fspath(path))
-        with _files.locked(path) as descriptor:
-            stored = _files.read(descriptor, path, not no_journal)
+        with _files.Locked(path) as descriptor:
+            file, journal = _files.read(descriptor, path, not no_journal)
         try:
-            library = cls(stored.file, stored.journal)
+            library = cls(file, journal)
         except Error as refused:
             if not (new_journal and refused.number in (53, 54)):
                 raise
-            library = cls(stored.file)
+            library = cls(file)
         library._path = path
         library._has_journal = not no_journal
-        library._stored = _digests(stored)
+        library._stored = file, journal
         return library
 
     def close(self) -> None:
         """Frees the file and its steps. What was not saved is lost. Later calls raise ValueError."""
         with self._lock:
             self._changed()
+            self._stored = b"", None
             self._handle.close()
 
     # ---- looking things up
@@ -107,14 +101,22 @@ class Library(Mapping[str, Entry]):
 
     def entry(self, key: Word, depth: int = 1) -> Entry:
         """The entry with this key, which inherits from up to ``depth`` parents (1 to 8)."""
+        import json
+
         with self._lock:
             told = self._handle.entry(to_bytes(key), depth)
         return Entry(json.loads(told))
 
     def entries(self, depth: int = 1) -> List[Entry]:
         """All entries in the order of the file, also those whose key an earlier entry has. It is faster than one by one."""
-        told = run("json", self.dumps(), "*", depth=depth).output
-        return [Entry(json.loads(line)) for line in told.split(b"\n")[:-1]]
+        import json
+
+        from ._commands import run_over
+
+        with self._lock:
+            told = run_over(self._handle.given(), "json", "*", depth=depth)
+        # Read as one text, names of fields are kept once.
+        return [Entry(it) for it in json.loads(b"[%b]" % told[:-1].replace(b"\n", b","))]
 
     def __iter__(self) -> Iterator[str]:
         return iter(self._all_keys())
@@ -149,7 +151,7 @@ class Library(Mapping[str, Entry]):
         """Makes one edit, given as the words of a line of a script, such as ``"set", "l94", "year", "1995"``."""
         with self._lock:
             self._changed()
-            self._handle.edit([to_bytes(word) for word in words])
+            self._handle.edit(words)
 
     def _changed(self) -> None:
         self._keys = self._items = None
@@ -157,7 +159,7 @@ class Library(Mapping[str, Entry]):
     def set(self, key: Word, field: Word, value: Word) -> None:
         """Sets a field of an entry to a BibTeX value, or adds the field."""
         with self._lock:
-            self._handle.edit((b"set", to_bytes(key), to_bytes(field), to_bytes(value)))
+            self._handle.edit(("set", key, field, value))
 
     def set_text(self, key: Word, field: Word, text: Word) -> None:
         """Sets a field of an entry to a text, in braces."""
@@ -166,7 +168,7 @@ class Library(Mapping[str, Entry]):
     def drop(self, key: Word, field: Word) -> None:
         """Removes a field of an entry."""
         with self._lock:
-            self._handle.edit((b"drop", to_bytes(key), to_bytes(field)))
+            self._handle.edit(("drop", key, field))
 
     def add(self, kind: Word, key: Word, fields: Optional[Mapping[str, Word]] = None) -> None:
         """Adds an entry after the last item. The values of the fields are BibTeX values."""
@@ -184,7 +186,9 @@ class Library(Mapping[str, Entry]):
 
     def _item_count(self) -> int:
         if self._items is None:
-            counted = run("check", self._handle.file()).output
+            from ._commands import run_over
+
+            counted = run_over(self._handle.given(), "check")
             self._items = int(counted.split(b"\n", 1)[0].split(b" ")[1])
         return self._items
 
@@ -226,15 +230,9 @@ class Library(Mapping[str, Entry]):
             self._changed()
             return self._handle.script(to_bytes(script))
 
-    @contextmanager
-    def group(self, label: Word = "") -> Iterator["Library"]:
+    def group(self, label: Word = "") -> ContextManager[Library]:
         """The edits inside are one step of undo. If an exception ends the block, the edits before it are kept."""
-        with self._lock:
-            self._handle.begin(to_bytes(label))
-            try:
-                yield self
-            finally:
-                self._handle.end()
+        return _Group(self, label)
 
     def undo(self, count: int = 1) -> int:
         """Undoes the last steps, and returns how many."""
@@ -281,12 +279,41 @@ class Library(Mapping[str, Entry]):
         with self._lock:
             if self._path is None:
                 raise ValueError("the library was opened from bytes, so there is no file to store")
-            stored = _files.Stored(*self._handle.save()) if self._has_journal else _files.Stored(self._handle.file(), None)
-            with _files.locked(self._path) as descriptor:
-                if _digests(_files.read(descriptor, self._path, self._has_journal)) != self._stored:
+            file, journal = self._to_store()
+            with _files.Locked(self._path) as descriptor:
+                if not _files.is_as(self._stored, descriptor, self._path, self._has_journal):
                     raise FileChanged(self._path)
-                _files.store(descriptor, self._path, stored)
-            self._stored = _digests(stored)
+                _files.store(descriptor, self._path, file, journal)
+            self._stored = bytes(file), None if journal is None else bytes(journal)
+
+    def _to_store(self) -> Tuple[memoryview, Optional[memoryview]]:
+        """The file as it is now and its journal, if it has one. They are there until the next call with the handle."""
+        if self._has_journal:
+            return self._handle.save_views()
+        return self._handle.file_view(), None
+
+
+class _Group:
+    """A block whose edits are one step of undo. Other threads wait until it ends."""
+
+    def __init__(self, library: Library, label: Word) -> None:
+        self._library = library
+        self._label = to_bytes(label)
+
+    def __enter__(self) -> Library:
+        self._library._lock.acquire()
+        try:
+            self._library._handle.begin(self._label)
+        except BaseException:
+            self._library._lock.release()
+            raise
+        return self._library
+
+    def __exit__(self, *why: object) -> None:
+        try:
+            self._library._handle.end()
+        finally:
+            self._library._lock.release()
 
 
 def loads(data: bytes, journal: Optional[bytes] = None) -> Library:

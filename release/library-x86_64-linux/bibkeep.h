@@ -91,6 +91,11 @@ void bibkeep_close(bibkeep *handle);
  * not. (bib_c_edit) */
 int bibkeep_edit(bibkeep *handle, const bibkeep_bytes *words, size_t count, bibkeep_error *error);
 
+/* The same, with the words as one text, and a NUL between two of them: "set\0l94\0year\01995" has 4. The numbers are of type int,
+ * which other languages pass with least work. Fails with BIBKEEP_MISUSE too if the text has not so many words, as where a word has
+ * a NUL. (bib_c_edit) */
+int bibkeep_edit_joined(bibkeep *handle, const char *words, int size, int count, bibkeep_error *error);
+
 /* Does the lines of a script in order, up to the first that is refused. Fails with 8 to 10, 31 to 41, 55, 56, 71.
  * (bib_c_script) */
 int bibkeep_script(bibkeep *handle, bibkeep_bytes script, bibkeep_error *error);
@@ -127,8 +132,16 @@ int bibkeep_entry(bibkeep *handle, bibkeep_bytes key, int depth, bibkeep_bytes *
 /* ---- commands of the program over bytes ----
  *
  * These answer what the program answers to the same bytes. They need a handle for what they give out, and leave its session as
- * it is. They return the number of the fault in the message, or 0; `error` has its place and line too. bibkeep_lint returns 0
- * if it found something, and the answer has status 1. (bib_c_run) */
+ * it is. They return the number of the fault in the message, or 0; `error` has its place and line too. The place is one of the
+ * file; with 53 of the journal; with 61 to 64, or if the message ends with ` in standard input`, of the input. bibkeep_lint
+ * returns 0 if it found something, and the answer has status 1. (bib_c_run)
+ *
+ * diff takes the name of the new file as its one argument, and the new file as the input; messages call the old file `-`, and of
+ * the new one they end with ` in ` and its name. It returns 0 if there is a difference, and the answer has status 1.
+ *
+ * Two things of the program are not there: its option --hints, and what lint finds in aux files, which is keys that a document cites
+ * and no entry has (missing-key). No aux file is read: the caller finds the keys that a document cites, and passes them as arguments
+ * of cite, labels, json, ris and extract. cite prints `? KEY` for a key that no entry has. */
 
 /* What a command gives. Bytes that it does not give have size 0. */
 typedef struct {
@@ -152,8 +165,9 @@ typedef struct {
     int dropped;              /* --dropped */
     int at;                   /* --at */
     int strict;               /* --strict */
+    int latex;                /* --latex */
     int raw;                  /* --raw */
-    const bibkeep_bytes *aux; /* the names of the aux files whose keys are among the arguments */
+    const bibkeep_bytes *aux; /* the names of the aux files whose keys are among the arguments; lint makes nothing of them */
     size_t aux_count;
 } bibkeep_options;
 
@@ -162,6 +176,20 @@ typedef struct {
 int bibkeep_run(bibkeep *handle, bibkeep_bytes command, const bibkeep_bytes *args, size_t count,
                 const bibkeep_options *options, bibkeep_bytes file, const bibkeep_bytes *journal, bibkeep_bytes input,
                 bibkeep_answer *answer, bibkeep_error *error);
+
+/* A file with its name: what messages, lint and json call it. */
+typedef struct {
+    bibkeep_bytes name;
+    bibkeep_bytes text;
+} bibkeep_named;
+
+/* Runs a command that only reads over several files, in this order, which are read as one: what the program answers if the options
+ * --before and --after name the files before and after its own. There is at least one file, and together they may have 16 MiB. The
+ * command is check, lint, show, cite, labels, json, names, newkeys, ris or extract; its arguments come without the file. The place
+ * is one of the file that the message names. (bib_c_run_files) */
+int bibkeep_run_files(bibkeep *handle, bibkeep_bytes command, const bibkeep_bytes *args, size_t count,
+                      const bibkeep_options *options, const bibkeep_named *files, size_t file_count, bibkeep_answer *answer,
+                      bibkeep_error *error);
 
 /* The commands that only read, with the options that they need. */
 int bibkeep_check(bibkeep *handle, bibkeep_bytes file, bibkeep_answer *answer, bibkeep_error *error);

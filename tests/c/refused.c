@@ -74,6 +74,7 @@ static int calls(void) {
         return none ? BIBKEEP_MEMORY : 10000 + __LINE__;
     }
     EXPECT(edits(h), 0);
+    EXPECT(bibkeep_edit_joined(h, "set\0b\0y\0002", 9, 4, NULL), 0);
     EXPECT(bibkeep_begin(h, text("two"), NULL), 0);
     EXPECT(bibkeep_script(h, text("set\tb\ty\t3\nrename-key\tb\tc\n"), NULL), 0);
     if (!is_short || bibkeep_undo(h, 1, NULL) == 55)
@@ -91,6 +92,9 @@ static int calls(void) {
     }
     EXPECT(bibkeep_run(h, text("labels"), &star, 1, &(bibkeep_options){.depth = 1}, text(FILE_TEXT), NULL, kept[0], &answer, NULL), 0);
     EXPECT(bibkeep_run(h, text("edit"), NULL, 0, NULL, text(FILE_TEXT), NULL, text("set\ta\ty\t1\n"), &answer, NULL), 0);
+    bibkeep_named files[2] = {{text("a"), text(FILE_TEXT)}, {text("b"), text("@misc{d}")}};
+    EXPECT(bibkeep_run_files(h, text("labels"), &star, 1, &(bibkeep_options){.depth = 1}, files, 2, &answer, NULL), 0);
+    EXPECT(bibkeep_run_files(h, text("lint"), NULL, 0, NULL, files, 2, &answer, NULL), 0);
     /* all steps there are can be undone, and lead back to the first file */
     size_t steps = bibkeep_undo_count(h);
     EXPECT(bibkeep_undo(h, steps, NULL), 0);

@@ -63,6 +63,16 @@ static void sessions(void) {
     CHECK(bibkeep_undo_count(h) == 1);
     CHECK(edit(h, &e, 2, (const char *[]){"frobnicate", "x"}) == 71);
 
+    /* an edit as one text */
+    CHECK(bibkeep_edit_joined(h, "set\0nobody\0year\0001995", 20, 4, &e) == 35 && bibkeep_end(h, &e) == 56);
+    CHECK(bibkeep_edit_joined(h, "set\0l94\0year\0{\xff\t}", 17, 4, &e) == 0 && bibkeep_undo_count(h) == 2);
+    CHECK(bibkeep_file(h, &file, &e) == 0 && file.size == strlen(REFS) && memcmp(file.data, REFS, file.size));
+    CHECK(bibkeep_edit_joined(h, "set\0l94\0year\0", 13, 4, &e) == 33 && bibkeep_edit_joined(h, "drop\0l94\0month", 14, 3, &e) == 0);
+    CHECK(bibkeep_edit_joined(h, NULL, 0, 1, &e) == 71 && bibkeep_edit_joined(h, "set\0", 4, 2, &e) == 71);
+    CHECK(bibkeep_edit_joined(h, "drop\0l94\0note", -1, 3, &e) == BIBKEEP_MISUSE);
+    CHECK(bibkeep_edit_joined(h, "drop\0l94\0no\0e", 13, 3, &e) == BIBKEEP_MISUSE && bibkeep_undo_count(h) == 3);
+    CHECK(bibkeep_undo(h, 2, &e) == 0 && bibkeep_undo_count(h) == 1);
+
     /* a script */
     CHECK(bibkeep_script(h, text("group\tprint run\nset\tl94\tyear\t1995\nset\tld86\tnote\t{x}\nend\nremove\tpodc\n"), &e) == 39);
     bibkeep_error_text(&e, words, sizeof words);
@@ -184,7 +194,14 @@ static void commands(void) {
     o.dropped = 0, o.raw = 1;
     CHECK(bibkeep_run(h, text("json"), &all, 1, &o, text(REFS), NULL, text(""), &a, &e) == 0 && a.status == 0);
     CHECK(bibkeep_run(h, text("labels"), &all, 1, &o, text(REFS), NULL, text(""), &a, &e) == BIBKEEP_MISUSE && a.status == 2);
-    o.raw = 0;
+    o.raw = 0, o.depth = 0, o.latex = 1;
+    CHECK(bibkeep_run(h, text("import"), NULL, 0, &o, text(""), NULL, text("TY  - GEN\nTI  - 5 % of A & B\nER  - \n"), &a, &e) == 0);
+    CHECK(a.has_file && is(a.file, "@misc{anon,\n  title = {5 \\% of A \\& B}\n}\n"));
+    CHECK(bibkeep_run(h, text("check"), NULL, 0, &o, text(REFS), NULL, text(""), &a, &e) == BIBKEEP_MISUSE && a.status == 2);
+    o.latex = 0;
+    CHECK(bibkeep_run(h, text("import"), NULL, 0, &o, text(""), NULL, text("TY  - GEN\nTI  - 5 % of A & B\nER  - \n"), &a, &e) == 0);
+    CHECK(a.has_file && is(a.file, "@misc{anon,\n  title = {5 % of A & B}\n}\n"));
+    o.depth = 1;
     CHECK(bibkeep_run(h, text("labels"), NULL, 0, &o, text(REFS), NULL, text(""), &a, &e) == BIBKEEP_MISUSE);
     o.aux = two, o.aux_count = 1; /* an aux file that cites no key */
     CHECK(bibkeep_run(h, text("labels"), NULL, 0, &o, text(REFS), NULL, text(""), &a, &e) == 0 && a.output.size == 0);
@@ -193,6 +210,21 @@ static void commands(void) {
     CHECK(bibkeep_run(h, text("explain"), (bibkeep_bytes[]){text("39")}, 1, NULL, text(""), NULL, text(""), &a, &e) == 0 && a.output.size > 0);
     CHECK(bibkeep_run(h, text("explain"), (bibkeep_bytes[]){text("999")}, 1, NULL, text(""), NULL, text(""), &a, &e) == 13);
     CHECK(bibkeep_run(h, text("frobnicate"), NULL, 0, NULL, text(REFS), NULL, text(""), &a, &e) == BIBKEEP_MISUSE && a.status == 2);
+
+    /* several files that are read as one */
+    bibkeep_named files[3] = {{text("m.bib"), text("@string{m = \"x\"}\n")}, {text("a.bib"), text("@misc{a, t = m, crossref = {b}}\n")},
+                              {text("b.bib"), text("@misc{b, y = {2}}\n")}};
+    o = (bibkeep_options){.depth = 1};
+    CHECK(bibkeep_run_files(h, text("show"), (bibkeep_bytes[]){text("a")}, 1, &o, files, 3, &a, &e) == 0);
+    CHECK(is(a.output, "@misc a\nt = x\ny = 2\ncrossref = b\n"));
+    CHECK(bibkeep_run_files(h, text("check"), NULL, 0, NULL, files, 3, &a, &e) == 0);
+    CHECK(is(a.output, "items 3\nentries 2\nmacros 1\npreambles 0\ncomments 0\n"));
+    CHECK(bibkeep_run_files(h, text("lint"), NULL, 0, NULL, files + 1, 1, &a, &e) == 0 && a.status == 1 && !memcmp(a.output.data, "a.bib:1:", 8));
+    files[1].text = text("@misc{a,,}");
+    CHECK(bibkeep_run_files(h, text("check"), NULL, 0, NULL, files, 3, &a, &e) == 2 && e.has_offset && e.offset == 8);
+    CHECK(is(a.message, "bibkeep: 2 ExpectedName at 8 in a.bib\n"));
+    CHECK(bibkeep_run_files(h, text("entry"), two, 1, NULL, files, 3, &a, &e) == BIBKEEP_MISUSE && a.status == 2);
+    CHECK(bibkeep_run_files(h, text("check"), NULL, 0, NULL, files, 0, &a, &e) == BIBKEEP_MISUSE && a.status == 2);
 
     /* a command leaves the session alone */
     bibkeep_bytes file;

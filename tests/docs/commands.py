@@ -86,14 +86,18 @@ def compare_examples(report, root, program, top, commands):
 def compare_example(report, where, example, program, folder):
     answer = run(example, program, folder)
     # diff ends with 1 where it shows a change
-    wanted = 1 if re.search(r"\| diff [^|]*$", example) else 0
+    wanted = 1 if re.search(r"(\||^bibkeep) diff [^|]*$", example) else 0
     report.expect(answer.returncode == wanted, where, f"{example}\nends with {answer.returncode} and says\n{answer.stdout.decode()}")
 
 
 def lay_examples(examples, folder):
-    """The files that the help texts speak of: those of the guide, with the first record of its RIS file, and two others."""
-    shutil.copy(os.path.join(examples, "guide.bib"), os.path.join(folder, "refs.bib"))
-    for name, text in (("strings.bib", "@string{jacm = {J. ACM}}\n"), ("parents.bib", "@proceedings{type90, year = 1990}\n")):
+    """The files that the help texts speak of: those of the guide, with the first record of its RIS file, and six others."""
+    for name in ("refs.bib", "old.bib", "base.bib", "theirs.bib"):
+        shutil.copy(os.path.join(examples, "guide.bib"), os.path.join(folder, name))
+    with open(os.path.join(folder, "theirs.bib"), "a", encoding="utf-8") as file:
+        file.write("\n@misc{added, note = {By another}}\n")
+    for name, text in (("strings.bib", "@string{jacm = {J. ACM}}\n"), ("parents.bib", "@proceedings{type90, year = 1990}\n"),
+                       ("entry.bib", "@article{lamport78, title = {Time, Clocks}}\n")):
         with open(os.path.join(folder, name), "w", encoding="utf-8") as file:
             file.write(text)
     shutil.copy(os.path.join(examples, "paper.aux"), folder)

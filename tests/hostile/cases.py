@@ -8,7 +8,7 @@ from dataclasses import dataclass
 from typing import Optional
 
 FILE = "f.bib"
-# A file that is read before the first one, or after it.
+# A file that is read before the first one, or after it, or that `diff` or `merge` takes beside it.
 OTHER = "strings.bib"
 JOURNAL = f"{FILE}.bibkeep"
 NEW_FILE = f"{FILE}.bibkeep-new"
@@ -52,7 +52,7 @@ class Case:
 
     def may_store(self):
         """Whether a run of the command stores something, unless it is refused."""
-        return self.command in ("edit", "import", "undo", "redo", "forget") and "--print" not in self.words
+        return self.command in ("edit", "import", "insert", "merge", "undo", "redo", "forget") and "--print" not in self.words
 
     def file_after(self):
         return self.file if self.new_file is None else self.new_file
@@ -131,6 +131,33 @@ def unimported(file, text, refusal, journal_before=None):
     """A RIS text that adds nothing to a file."""
     return Case(
         words=("import", FILE),
+        file=file,
+        journal=journal_before,
+        input=text,
+        reads=(FILE, INPUT) if journal_before is None else (FILE, JOURNAL, INPUT),
+        status=1,
+        message=b"bibkeep: %s\n" % refusal,
+    )
+
+
+def inserted(file, text, position, count, pieces, new_file, journal_before=None, past=(), options=()):
+    """A text that is put into a file, at a position or at the end, and has so many entries."""
+    return Case(
+        words=("insert", FILE, *options, *position),
+        file=file,
+        journal=journal_before,
+        input=text,
+        reads=(FILE, INPUT) if journal_before is None else (FILE, JOURNAL, INPUT),
+        output=b"added %d\n" % count,
+        new_file=new_file,
+        new_journal=journal(new_file, [*past, pieces]),
+    )
+
+
+def uninserted(file, text, position, refusal, journal_before=None):
+    """A text that is not put into a file."""
+    return Case(
+        words=("insert", FILE, *position),
         file=file,
         journal=journal_before,
         input=text,
@@ -270,6 +297,24 @@ SEVERAL = [
     among_several(("extract", FILE, "c", "zz"), CHILD, BOTH, status=1, message=b"bibkeep: 11 NoSuchEntry in zz\n"),
 ]
 
+
+
+def compared(old, new, **answer):
+    """The edits that lead from one file to another."""
+    return Case(("diff", FILE, OTHER), file=old, other=new, reads=(FILE, OTHER), **answer)
+
+
+COMPARING = [
+    compared(b"@misc{a, t = 1}\n@misc{b}\n", b"@misc{a, t = {2}}\n\n@book{c, u = 1}\n", status=1, output=b"remove\tb\nadd\t1\tbook\tc\tu\t1\nset\ta\tt\t{2}\n"),
+    compared(b"@misc{p, t = 1}@misc{c, crossref={p}}", b'@misc{q,T={1}}@misc{c, crossref = "Q"}', status=1, output=b'rename-key\tp\tq\nset\tc\tcrossref\t"Q"\n'),
+    compared(b"@misc{a}@misc{b}@misc{c}", b"@misc{c}@misc{a}@misc{b}", status=1, output=b"move\tc\t0\n"),
+    compared(b"@misc{a,t={x  y}}", b'% new\n@misc{a,\n  t = "x\ny" ,\n}'),
+    compared(b"@misc{a}@misc{a}", b"@misc{a}", status=1, message=b"bibkeep: 46 NoScript in a\n"),
+    compared(b"@misc{a}", b"@misc{a}@misc{}", status=1, message=b"bibkeep: 46 NoScript\n"),
+    compared(b"@misc{", b"@misc{a,,}", status=1, message=b"bibkeep: 1 Unended at 6 in f.bib\n"),
+    compared(b"@misc{a}", b"@misc{a,,}", status=1, message=b"bibkeep: 2 ExpectedName at 8 in strings.bib\n"),
+]
+
 EDITING = [
     edited(WITH_ENTRY, b"remove\tk\n", REMOVAL, b"abc"),
     edited(
@@ -367,6 +412,41 @@ IMPORTING = [
     unimported(b"", b"TY  - GEN\nID  - x\nER  - \nTY  - GEN\nID  - x\nER  - \n", b"37 KeyInUse"),
     unimported(b"@misc{X}", b"TY  - GEN\nID  - x\nER  - \n", b"37 KeyInUse", journal(b"@misc{X}", [[(0, b"", b"@misc{X}")]])),
     unimported(b"abd", LONG_ONE, b"54 JournalMismatch", REMOVED),
+]
+
+# What a page may give: text around entries, a macro, a preamble, CR LF, a mark, and keys that look like options and commands.
+PASTED = (
+    b"\xef\xbb\xbf% from a page\r\n@string{m = {M}}\r\n@preamble{m}\r\n"
+    b"@article{--print, t = m}\r\n@comment{x}@misc{undo, crossref = {A}}"
+)
+INSERTING = [
+    inserted(b"abc", b"@misc{k}\n", (), 1, [(3, b"", b"\n@misc{k}\n")], b"abc\n@misc{k}\n"),
+    inserted(b"abc", b"@misc{k}\n", ("0",), 1, [(3, b"", b"\n@misc{k}\n")], b"abc\n@misc{k}\n", REMOVED, past=[REMOVAL]),
+    inserted(TWO, b"@book{c}\n", ("after:A",), 1, [(9, b"", b"@book{c}\n")], b"@misc{a}\n@book{c}\n@misc{b}\n"),
+    inserted(TWO, b"@book{c}", ("before:a",), 1, [(0, b"", b"@book{c}")], b"@book{c}@misc{a}\n@misc{b}\n"),
+    inserted(TWO, PASTED, ("end",), 2, [(18, b"", PASTED)], TWO + PASTED),
+    inserted(b"@misc{--help}\n" + TWO, b"@book{c}\n", ("after:--help",), 1, [(14, b"", b"@book{c}\n")], b"@misc{--help}\n@book{c}\n" + TWO),
+    # what could be redone goes
+    inserted(WITH_ENTRY, b"@misc{l}", ("end",), 1, [(11, b"", b"\n@misc{l}")], WITH_ENTRY + b"\n@misc{l}", TAKEN_BACK),
+    # an empty text is a step without pieces
+    inserted(b"abc", b"", (), 0, [], b"abc", REMOVED, past=[REMOVAL]),
+    inserted(b"abd", b"@misc{k}\n", (), 1, [(3, b"", b"\n@misc{k}\n")], b"abd\n@misc{k}\n", REMOVED, options=("--new-journal",)),
+    printed(("insert", FILE, "before:b"), TWO, b"@book{c}\n", b"@misc{a}\n@book{c}\n@misc{b}\n"),
+    Case(("insert", FILE, "--no-journal"), b"abd", input=b"@misc{k}\n", reads=(FILE, INPUT), output=b"added 1\n", new_file=b"abd\n@misc{k}\n"),
+    uninserted(b"abc", b"@misc{k", (), b"1 Unended at 7 in standard input"),
+    uninserted(b"abc", b'@misc{a,t="}"}', ("0",), b"6 UnbalancedBrace at 11 in standard input"),
+    uninserted(b"abc", b"@misc{k}", ("1",), b"34 BadPosition"),
+    uninserted(b"abc", b"@misc{k", ("first",), b"34 BadPosition"),
+    uninserted(TWO, b"@misc{k}", ("after:k",), b"35 NotFound"),
+    uninserted(b"@misc{a}@misc{A}", b"@misc{k}", ("before:a",), b"36 Ambiguous"),
+    uninserted(WITH_ENTRY, b"@book{K}", (), b"37 KeyInUse", TAKEN_BACK),
+    uninserted(b"abc", b"@misc{k}@book{K}", (), b"37 KeyInUse"),
+    uninserted(CONFERENCE, b"@string{CONF = 1}", (), b"38 NameInUse"),
+    uninserted(b"@misc{a} x @book", b"{b}", ("after:a",), b"40 WouldMerge"),
+    uninserted(b"abd", b"@misc{k}", (), b"54 JournalMismatch", REMOVED),
+    edited(TWO, b"add\tafter:a\tbook\tc\n", [(9, b"", b"@book{c}\n")], b"@misc{a}\n@book{c}\n@misc{b}\n"),
+    edited(TWO, b"move\ta\tend\n", [(0, b"@misc{a}", b""), (18, b"", b"@misc{a}\n")], b"\n@misc{b}\n@misc{a}\n"),
+    worded(TWO, ("move", "b", "before:A"), [(0, b"", b"@misc{b}\n"), (9, b"@misc{b}", b"")], b"@misc{b}\n@misc{a}\n\n"),
 ]
 
 WORDING = [
@@ -505,4 +585,14 @@ TURNING = [
     Case(("forget", FILE), b"abc", b"no journal", new_journal=journal(b"abc")),
 ]
 
-CASES = READING + SEVERAL + EDITING + WORDING + PRINTING + JOURNALLESS + BEGINNING + IMPORTING + TURNING
+MERGING = [
+    Case(("merge", FILE, FILE, OTHER), file=b"@misc{a}\n", other=b"@misc{b}\n", reads=(FILE, OTHER), new_file=b"@misc{b}\n"),
+    Case(("merge", FILE, FILE, OTHER, "--print"), file=b"@misc{a}\n", other=b"@misc{b}\n", reads=(FILE, OTHER), output=b"@misc{b}\n"),
+    Case(("merge", OTHER, FILE, OTHER), file=b"x@foo\n", other=b"@misc{b}\n", reads=(OTHER, FILE), new_file=b"x@foo\n"),
+    Case(
+        ("merge", FILE, FILE, OTHER), file=b"@misc{a}\n", other=b"@misc{", reads=(FILE, OTHER), status=1,
+        message=b"bibkeep: 1 Unended at 6 in strings.bib\n",
+    ),
+]
+
+CASES = READING + SEVERAL + COMPARING + EDITING + WORDING + PRINTING + JOURNALLESS + BEGINNING + IMPORTING + INSERTING + MERGING + TURNING

@@ -2,6 +2,7 @@
 
 import contextlib
 import os
+import random
 import re
 import resource
 import subprocess
@@ -14,6 +15,12 @@ from program import LINKED, READ_FAULT, Left, answer_of, seen
 TOGETHER = {OTHER: MACRO, FILE: CHILD, "parents.bib": b"@book{v, year = 2001}\n"}
 TOGETHER_WORDS = ("check", FILE, "--before", OTHER, "--after", "parents.bib")
 MANY = 65535
+
+# Texts at random: which bytes, how many texts, and up to how long.
+RANDOM_BYTES = b"@@@{{}}()\"\",=#% \n\r\tam1\\\x00\xff"
+RANDOM_TEXTS = 1000
+RANDOM_LENGTH = 24
+RANDOM_SEED = 1
 
 # Files that can be read, from worked examples.
 ACCEPTED = [
@@ -105,7 +112,7 @@ READERS = [
     ("ris", FILE, "a"),
     ("forget", FILE),
 ]
-WITH_JOURNAL = [("edit", FILE), ("import", FILE), ("undo", FILE), ("redo", FILE), ("log", FILE)]
+WITH_JOURNAL = [("edit", FILE), ("import", FILE), ("insert", FILE), ("undo", FILE), ("redo", FILE), ("log", FILE)]
 
 
 def tried(report, program):
@@ -114,6 +121,9 @@ def tried(report, program):
             report.tried("a file is cut at each byte", command, cut(program, command, file))
     report.tried("one of several files is cut at each byte", "check", cut_one_of_several(program))
     report.tried(f"{MANY:,} empty files", "check", many_files(program))
+    for file in ACCEPTED:
+        report.tried("a text to be put in is cut at each byte", "insert", cut_text(program, file))
+    report.tried("a text of bytes at random", "insert", at_random(program))
     for text, entry, skipped in RIS_TEXTS:
         report.tried("a RIS text is cut at each byte", "import", cut_ris(program, text, entry, skipped))
     for case in DEEP:
@@ -122,9 +132,11 @@ def tried(report, program):
     for words in READERS + WITH_JOURNAL:
         report.tried("a file never ends", words[0], endless(program, words, FILE, FILE_TOO_LONG))
     report.tried("a file never ends", "check", endless(program, ("check", FILE, "--before", OTHER), OTHER, FILE_TOO_LONG[:-1] + b" in strings.bib\n"))
+    for names in ((FILE, OTHER), (OTHER, FILE)):
+        report.tried("a file never ends", "diff", endless(program, ("diff", *names), OTHER, FILE_TOO_LONG[:-1] + b" in strings.bib\n"))
     for words in WITH_JOURNAL:
         report.tried("a journal that is no file", words[0], no_journal(program, words))
-    for words in [("cat",), ("edit", FILE), ("import", FILE)]:
+    for words in [("cat",), ("edit", FILE), ("import", FILE), ("insert", FILE)]:
         report.tried("an input never ends", words[0], endless(program, words, INPUT, FILE_TOO_LONG))
 
 
@@ -136,6 +148,31 @@ def cut(program, command, file):
         unended = Left(1, b"", b"bibkeep: 1 Unended at %d\n" % size, prefix, None)
         read = Left(0, prefix if command == "cat" else left.output, b"", prefix, None)
         yield seen(left, {"read": read, "ended too early": unended}, f"{command} of {prefix!r}")
+
+
+def cut_text(program, file):
+    """Each prefix is put into an empty file, or ended too early."""
+    for size in range(len(file)):
+        yield put_in(program, file[:size])
+
+
+def at_random(program):
+    """Bytes as they come, most of which have a meaning in a file."""
+    bytes_of = random.Random(RANDOM_SEED)
+    for _ in range(RANDOM_TEXTS):
+        yield put_in(program, bytes(bytes_of.choice(RANDOM_BYTES) for _ in range(bytes_of.randrange(RANDOM_LENGTH))))
+
+
+def put_in(program, text):
+    """A text that `cat` accepts is put into an empty file as it is, or has a key twice; any other is refused as `cat` refuses it."""
+    read = program.try_case(Case(("cat",), input=text))
+    left = program.try_case(Case(("insert", FILE), b"", input=text))
+    if read.status:
+        refused = Left(1, b"", read.message[:-1] + b" in standard input\n", b"", None)
+        return seen(left, {"refused as by cat": refused}, f"insert of {text!r}")
+    stored = Left(0, left.output, b"", text, journal(text, [[(0, b"", text)] if text else []]))
+    taken = Left(1, b"", b"bibkeep: 37 KeyInUse\n", b"", None)
+    return seen(left, {"put in": stored, "a key twice": taken}, f"insert of {text!r}")
 
 
 def cut_one_of_several(program):

@@ -4,7 +4,7 @@ from cases import FILE, REMOVAL, REMOVED, WITH_ENTRY, Case, journal
 from program import MISMATCH, Left, answer_of, seen
 
 ABC = b"abc"
-COMMANDS = [("edit", FILE), ("import", FILE), ("undo", FILE), ("redo", FILE), ("log", FILE)]
+COMMANDS = [("edit", FILE), ("import", FILE), ("insert", FILE), ("undo", FILE), ("redo", FILE), ("log", FILE)]
 # The lines before the steps.
 HEAD = REMOVED[:79]
 

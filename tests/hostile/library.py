@@ -39,12 +39,12 @@ ROWS = {
     "flat_stores": 13,
     "paged_stores": 13,
     "names": 14,
-    "flat_edits": 21,
-    "paged_edits": 21,
-    "plans": 25,
+    "flat_edits": 24,
+    "paged_edits": 24,
+    "plans": 26,
     "journals": 8,
     "references": 14,
-    "shelves": 4,
+    "shelves": 5,
     "extracts": 4,
 }
 LEFT_OUT = {("flat_edits", row) for row in (1, 2, 3, 5, *range(7, 15))}
@@ -54,7 +54,7 @@ QUIET = "quiet"
 SET_UP = "set_up"
 QUIET_ROWS = 17
 # The calls with a result that take no memory.
-WITHOUT_MEMORY = {"Database::find", "Macros::months", "Reader::new", "Session::end"}
+WITHOUT_MEMORY = {"Database::find", "place_of", "Macros::months", "Reader::new", "Session::end"}
 # A request that comes after all of a row, and one that comes before the first.
 LATE = REFUSED - STARTING - 1
 BEFORE_THE_FIRST = ("files", 0, 0)

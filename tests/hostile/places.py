@@ -147,7 +147,7 @@ def full_disk(program, case):
     """A disk of so many pages has room for the old files, for the new file too, or for all of them; an empty file has none."""
     if not case.stores():
         return
-    old = sum(bool(content) for content in (case.file, case.journal))
+    old = sum(bool(content) for content in (case.file, case.other, case.journal))
     new = sum(bool(content) for content in (case.new_file, case.new_journal))
     # a disk of no pages would be one without a limit
     for pages in range(max(1, old), old + new):
@@ -194,7 +194,7 @@ def on_a_disk(program, case, options, then=""):
     for folder in (laid, kept):
         shutil.rmtree(folder, ignore_errors=True)
         os.mkdir(folder)
-    for name, content in ((FILE, case.file), (JOURNAL, case.journal)):
+    for name, content in ((FILE, case.file), (OTHER, case.other), (JOURNAL, case.journal)):
         if content is not None:
             with open(os.path.join(laid, name), "wb") as file:
                 file.write(content)

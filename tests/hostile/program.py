@@ -40,7 +40,7 @@ def refusal_of(case, status, message, output=b""):
 
 
 def read_fault_of(case, source=FILE):
-    """The same, where this source cannot be read: its name is told if several files are read as one."""
+    """The same, where this source cannot be read: its name is told if several files are read."""
     if case.other is None:
         return refusal_of(case, 3, READ_FAULT)
     return refusal_of(case, 3, b"bibkeep: read fault in %s\n" % source.encode())

@@ -63,6 +63,65 @@ when_edited drop knuth; hinted '71 BadScript' '  its words are: drop KEY FIELD
 when explain --hints foo; ends_with 1; hinted '13 NoSuchFault' '  foo is neither the number nor the name of a fault'
 when undo hinted.bib --hints; ends_with 1; hinted '51 NothingToUndo' '  bibkeep log hinted.bib lists the changes'
 
+# A position: what it may be, and which key it names.
+when_edited add after:nobody misc new; hinted '35 NotFound' "  no entry of hinted.bib has the key nobody
+  bibkeep cite hinted.bib '*' lists the keys"
+when_edited move nobody before:podc; hinted '35 NotFound' "  no entry of hinted.bib has the key nobody
+  bibkeep cite hinted.bib '*' lists the keys"
+when_edited move nobody before:none; hinted '35 NotFound' "  no entry of hinted.bib has the key none
+  bibkeep cite hinted.bib '*' lists the keys"
+when_edited add before:DUP misc new; hinted '36 Ambiguous' '  the key DUP is that of 2 entries: lines 10 and 11
+  remove one of the two in an editor, and then type: bibkeep forget hinted.bib'
+when_edited move knuth after:dup; hinted '36 Ambiguous' '  the key dup is that of 2 entries: lines 10 and 11
+  remove one of the two in an editor, and then type: bibkeep forget hinted.bib'
+when_edited move dup after:knuth; hinted '36 Ambiguous' '  the key dup is that of 2 entries: lines 10 and 11
+  remove one of the two in an editor, and then type: bibkeep forget hinted.bib'
+when_edited add end misc new t 1 T 2; hinted '36 Ambiguous' '  the new entry has a field twice'
+when_edited add first misc new; hinted '71 BadScript' '  its words are: add POSITION TYPE KEY FIELD VALUE ..
+  a position is a number of items from 0, end, before:KEY or after:KEY
+  bibkeep help edit says more'
+when_edited move knuth -- -1; hinted '71 BadScript' '  its words are: move KEY POSITION
+  a position is a number of items from 0, end, before:KEY or after:KEY
+  bibkeep help edit says more'
+
+# A text that is put in: its line and column, which key or macro, and where.
+when_inserted() {
+    given hinted.text "$1"
+    shift
+    input=hinted.text
+    when insert hinted.bib --hints --print "$@"
+    ends_with 1
+}
+when_inserted 'one\n@misc{a,\n  t = "x}y"}\n'; says 'bibkeep: 6 UnbalancedBrace at 21 in standard input
+  standard input, line 3, column 9
+  the line: t = "x}y"}
+  bibkeep explain 6 says more'
+when_inserted '@misc{a,\n  t = 1\n'; says 'bibkeep: 1 Unended at 17 in standard input
+  standard input, line 3, column 1
+  bibkeep explain 1 says more'
+when_inserted '@misc{new}\n\n@misc{Knuth}\n@misc{podc}\n'; hinted '37 KeyInUse' '  line 3 of the input has the key Knuth, which is that of the entry in line 4 of hinted.bib
+  give the entry of the input another key, or leave it out'
+when_inserted '@misc{}@misc{}\n@misc{new}\n@misc{other}@misc{NEW}\n'; hinted '37 KeyInUse' '  lines 2 and 3 of the input have the same key: NEW
+  give the entry of the input another key, or leave it out'
+when_inserted '@misc{new}\n@string{other = 1}@string{TWICE = "c"}\n'; hinted '38 NameInUse' '  line 2 of the input defines the macro TWICE, as line 2 of hinted.bib does
+  leave the definition out of the input, if both give the same text'
+when_inserted '@misc{new}' 11; hinted '34 BadPosition' '  hinted.bib has 10 items, counted from 0; that number is the end of the file'
+when_inserted '@misc{new}' new.bib; hinted '34 BadPosition' '  new.bib is no position
+  a position is a number of items from 0, end, before:KEY or after:KEY
+  the text comes from standard input: bibkeep insert hinted.bib < FILE'
+when_inserted '@misc{new}' after:nobody; hinted '35 NotFound' "  no entry of hinted.bib has the key nobody
+  bibkeep cite hinted.bib '*' lists the keys"
+when_inserted '@misc{new}' before:dup; hinted '36 Ambiguous' '  the key dup is that of 2 entries: lines 10 and 11
+  remove one of the two in an editor, and then type: bibkeep forget hinted.bib'
+given hinted_joined.bib '@misc{a}\n@book'
+given hinted.text '{b}'
+input=hinted.text; when insert hinted_joined.bib --hints; ends_with 1; hinted '40 WouldMerge' '  the text before that position and the beginning of the input would be read as an item'
+given hinted_bad.bib '@misc{'
+input=hinted.text; when insert hinted_bad.bib --hints; ends_with 1; says 'bibkeep: 1 Unended at 6
+  hinted_bad.bib, line 1, column 7
+  the line: @misc{
+  bibkeep explain 1 says more'
+
 # A line of a script: the words are those of the line, and the file has the edits before it.
 cp hinted.bib scripted.bib
 given hinted.script 'add\t0\tmisc\tnew\nremove\tnew\r\nremove\tnew\n'
@@ -138,12 +197,28 @@ when edit hinted.bib --hints --print set knuth note '{Knuth}'; ends_with 0; says
 input=hinted_bad.bib; when import hinted.bib --hints --print; ends_with 0; says '  no record in the input
   this looks like BibTeX; import reads RIS'
 
+given hinted.text ' \n'
+input=hinted.text; when insert hinted.bib --hints --no-journal; ends_with 0; prints 'added 0\n'; says '  the input is empty'
+given hinted.text '<html>\n'
+input=hinted.text; when insert hinted.bib --hints --no-journal; ends_with 0; prints 'added 0\n'; says '  no entry in the input'
+given hinted.text '\357\273\277TY  - JOUR\nER  - \n'
+input=hinted.text; when insert hinted.bib --hints --no-journal; ends_with 0; prints 'added 0\n'; says '  no entry in the input
+  this looks like RIS; type: bibkeep import hinted.bib < FILE'
+given hinted.text '@misc{new}\n'
+input=hinted.text; when insert hinted.bib 0 --hints --no-journal; ends_with 0; prints 'added 1\n'; says_nothing
+given hinted.text '@misc{newer}'
+input=hinted.text; when insert hinted.bib --hints --no-journal; ends_with 0; prints 'added 1\n'; says_nothing
+given hinted.text '@misc{newest}'
+input=hinted.text; when insert hinted.bib --hints --no-journal after:new; ends_with 0; prints 'added 1\n'; says '  the last line of the input is not ended: what comes next in the file begins in it
+  bibkeep undo hinted.bib takes the text out again'
+
 # The words of the command line.
 when undo hinted.bib 2 --hints; ends_with 2; complains_of '  type the number of changes so: bibkeep undo F --steps 2'
 when undo hinted.bib --all --hints; ends_with 2; complains_of '  type the number of changes so: bibkeep undo F --steps 2'
 when edit hinted.bib --hints --dry-run set a t 1; ends_with 2; complains_of '  --print shows the new file, and stores nothing'
 when edit hinted.bib --hints add -1 misc a; ends_with 2; complains_of '  positions count from 0, and the number of items is the end of the file'
 when edit hinted.bib --hints drop -k t; ends_with 2; complains_of '  put -- before words of an edit that begin with a hyphen'
+when insert hinted.bib --hints -1; ends_with 2; complains_of '  a position is a number of items from 0, end, before:KEY or after:KEY'
 when help regenerate --hints; ends_with 2; complains_of '  regenerate is an edit; type: bibkeep help edit'
 when set hinted.bib --hints; ends_with 2; complains_of '  set is an edit; type: bibkeep edit F set ..'
 when cite --hints hinted.bib; ends_with 2; complains_of "  a KEY is one of the file, or '*' for every entry"

@@ -49,6 +49,10 @@ when cite key.bib --before sign.bib '*'; ends_with 0; prints 'n\n'; says_nothing
 given half_1.bib '@misc{h,t={'
 given half_2.bib '}}'
 when check half_1.bib --after half_2.bib; ends_with 1; writes_nothing; says 'bibkeep: 1 Unended at 11 in half_1.bib'
+given half_3.bib 'y}}@misc{i j}'
+when check half_1.bib --after empty.bib --after half_3.bib; ends_with 1; writes_nothing; says 'bibkeep: 1 Unended at 11 in half_1.bib'
+when cite half_1.bib --before v.bib --after half_2.bib '*'; ends_with 1; writes_nothing; says 'bibkeep: 1 Unended at 11 in half_1.bib'
+when lint half_1.bib --before v.bib --after half_2.bib; ends_with 1; prints 'half_1.bib:1:12: error: 1 Unended\n'; says_nothing
 
 # A comment between two files is none of theirs, and an empty file says nothing.
 when check empty.bib --after empty.bib --before empty.bib; ends_with 0; prints 'items 0\nentries 0\nmacros 0\npreambles 0\ncomments 0\n'; says_nothing

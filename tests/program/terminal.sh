@@ -39,6 +39,8 @@ input=typed.txt; when_at input,errors edit screen.bib; ends_with 0; mentions '  
 given typed.txt 'TY  - BOOK\nER  - \n'
 input=typed.txt; when_at input,errors import screen.bib --print; ends_with 0; mentions '  type or paste RIS records, and end with Ctrl-D'
 given typed.txt '@misc{a}\n'
+given typed.txt '@misc{typed}\n'
+input=typed.txt; when_at input,errors insert screen.bib --print; ends_with 0; mentions '  type or paste BibTeX entries, and end with Ctrl-D'
 input=typed.txt; when_at input,errors cat; ends_with 0; mentions '  type or paste a BibTeX file, and end with Ctrl-D'
 
 # The reader of the output is gone: no message.

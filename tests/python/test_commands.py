@@ -4,6 +4,7 @@ import glob
 import os
 import pathlib
 import subprocess
+import tempfile
 import unittest
 
 import bibkeep
@@ -71,9 +72,40 @@ class Commands(unittest.TestCase):
         self.assertEqual(library["Lam78"]["title"], "Time, Clocks")
         library.undo()
         self.assertEqual(library.dumps(), REFS)
+        ris = b"TY  - GEN\nTI  - 5 % of A & B\nER  - \n"
+        for latex, text in ((False, b"{5 % of A & B}"), (True, b"{5 \\% of A \\& B}")):
+            self.assertEqual(bibkeep.run("import", b"", input=ris, latex=latex).file, b"@misc{anon,\n  title = " + text + b"\n}\n")
         with self.assertRaises(bibkeep.ParseError) as refused:
             bibkeep.run("import", REFS, input=b"AU  - x\n")
         self.assertEqual((refused.exception.number, refused.exception.line), (61, 1))
+
+    def test_an_insertion(self):
+        text = b"% from a page\n@book{new, title = {New}}\n"
+        answer = bibkeep.run("insert", REFS, "after:l94", input=text)
+        self.assertEqual(answer.output, b"added 1\n")
+        library = bibkeep.loads(answer.file, answer.journal)
+        self.assertEqual(library["new"]["title"], "New")
+        library.undo()
+        self.assertEqual(library.dumps(), REFS)
+        with self.assertRaises(bibkeep.ParseError) as refused:
+            bibkeep.run("insert", REFS, input=b"@misc{a,\n  t = 1\n  u = 2}\n")
+        self.assertEqual((refused.exception.number, refused.exception.line, refused.exception.column), (4, 3, 3))
+        with self.assertRaises(bibkeep.EditError) as refused:
+            bibkeep.run("insert", REFS, input=b"@misc{L94}\n")
+        self.assertEqual(refused.exception.number, 37)
+
+    def test_a_difference(self):
+        new = REFS + b"@misc{new, title = {New}}\n"
+        answer = bibkeep.run("diff", REFS, "new.bib", input=new)
+        self.assertEqual((answer.status, answer.message), (1, b""))
+        edited = bibkeep.run("edit", REFS, input=answer.output)
+        self.assertEqual(bibkeep.run("diff", edited.file, "new.bib", input=new).output, b"")
+        with self.assertRaises(bibkeep.ParseError) as refused:
+            bibkeep.run("diff", REFS, "new.bib", input=b"@misc{a,\n  t = 1\n  u = 2}\n")
+        self.assertEqual((refused.exception.number, refused.exception.line, refused.exception.column), (4, 3, 3))
+        with self.assertRaises(bibkeep.Error) as refused:
+            bibkeep.run("diff", b"@misc{a}@misc{a}", "new.bib", input=b"@misc{a}")
+        self.assertEqual((refused.exception.number, refused.exception.name), (46, "NoScript"))
 
     def test_a_refusal_is_raised_or_answered(self):
         with self.assertRaises(bibkeep.NoSuchEntry):
@@ -94,6 +126,50 @@ class Commands(unittest.TestCase):
         self.assertIsNone(bibkeep.run("edit", REFS, "set", "l94", "year", "1995", no_journal=True).journal)
         shown = bibkeep.run("edit", REFS, "set", "l94", "year", "1995", print=True)
         self.assertEqual((shown.file, shown.output), (None, edited.file))
+
+    def test_several_files_that_are_read_as_one(self):
+        with tempfile.TemporaryDirectory(prefix="bibkeep-commands-") as folder:
+            paths = [f"{folder}/{name}.bib" for name in ("m", "a", "b")]
+            for path, text in zip(paths, (b'@string{m = "x"}\n', b"@misc{a, t = m, crossref = {b}}\n", b"@misc{b, y = {2}}\n")):
+                pathlib.Path(path).write_bytes(text)
+            shown = b"@misc a\nt = x\ny = 2\ncrossref = b\n"
+            self.assertEqual(bibkeep.run_files("show", paths, "a").output, shown)
+            self.assertEqual(bibkeep.run_files("show", map(pathlib.Path, paths), "a").output, shown)
+            pathlib.Path(paths[2]).write_bytes(b"@misc{b,\n ,}")
+            with self.assertRaises(bibkeep.ParseError) as refused:
+                bibkeep.run_files("show", paths, "a")
+            self.assertEqual((refused.exception.number, refused.exception.line, refused.exception.column), (2, 2, 2))
+            with self.assertRaises(ValueError):
+                bibkeep.run_files("entry", paths, "a")
+            with self.assertRaises(ValueError):
+                bibkeep.run_files("check", [])
+            with self.assertRaises(FileNotFoundError):
+                bibkeep.run_files("check", [f"{folder}/nothing"])
+
+    @unittest.skipUnless(PROGRAM, "there is no program")
+    def test_answers_over_several_files_are_those_of_the_program(self):
+        with tempfile.TemporaryDirectory(prefix="bibkeep-commands-") as folder:
+            paths = [f"{folder}/{n}.bib" for n in range(len(TEXTS))]
+            for path, text in zip(paths, TEXTS):
+                pathlib.Path(path).write_bytes(text)
+            for before, own, after in ((0, 6, ()), (0, 1, (5, 6)), (6, 0, (0,)), (0, 2, (6,)), (3, 0, ()), (5, 4, (2,))):
+                for command, options, words in RUNS:
+                    if command in ("cat", "entry"):
+                        continue
+                    with self.subTest(command=command, options=options, words=words, files=(before, own, after)):
+                        flags = [flag for it in after for flag in ("--after", paths[it])]
+                        for name, value in options.items():
+                            flags += [OPTIONS[name]] if value is True else [OPTIONS[name], str(value)]
+                        ran = subprocess.run(
+                            [PROGRAM, command, "--before", paths[before], paths[own], *flags, *words],
+                            stdin=subprocess.DEVNULL,
+                            stdout=subprocess.PIPE,
+                            stderr=subprocess.PIPE,
+                        )
+                        args = [word for word in words if word != "--ignore"]
+                        files = [paths[it] for it in (before, own, *after)]
+                        answer = bibkeep.run_files(command, files, *args, raises=False, **options)
+                        self.assertEqual((answer.status, answer.output, answer.message), (ran.returncode, ran.stdout, ran.stderr))
 
     @unittest.skipUnless(PROGRAM, "there is no program")
     def test_all_answers_are_those_of_the_program(self):

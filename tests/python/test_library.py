@@ -192,6 +192,12 @@ class Bytes(unittest.TestCase):
         library.set("k\udcff", "note", "{\udcff\t}")
         library.undo(2)
         self.assertEqual(library.dumps(), data)
+        for words in (("k\udcff", "t", "{\0a\0}"), (b"k\xff", b"t", b"{\0a\0}"), ("k\udcff", b"t", "{\0a\0}")):
+            library.set(*words)
+            self.assertEqual(library.dumps(), b"@misc{k\xff, t = {\x00a\x00}}")
+            library.undo()
+        with self.assertRaises(AttributeError):
+            library.set("k\udcff", "t", 1)
 
     def test_a_closed_library_has_nothing(self):
         library = bibkeep.loads(REFS)

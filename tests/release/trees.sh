@@ -86,6 +86,7 @@ given fits/crates/beside/src/lib.rt 'beside\n'
 given fits/crates/bib_c/src/lib.rt 'exports\n'
 given fits/crates/bibkeep/src/main.rt 'main\n'
 cp "$program" fits/crates/bibkeep/out/bibkeep
+RT=$work/rt fits/tools/mutants >/dev/null
 RT=$work/rt fits/tools/release
 rm -r fits/crates/bibkeep/out fits/crates/bib_c/out
 

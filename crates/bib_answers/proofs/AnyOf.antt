@@ -1,5 +1,5 @@
 -- Whether one of a list passes a test, one after another.
-use Rattle.bib_answers.proofs.Words.{◌≡◌, ◌∙◌, ℕ, ◌+◌, ◌<◌, ◌≤◌, Bool, true, false, List, [], ◌∷◌, ◌++◌, length, take, drop, get_or, Some, slice_get, refl, sym, ap, ⊎_elim, slice_get_cases, list_any, take_more, take_all, take-append-drop}
+use Rattle.bib_answers.proofs.Words.{◌≡◌, ◌∙◌, ℕ, ◌+◌, ◌<◌, ◌≤◌, Bool, true, false, List, [], ◌∷◌, length, take, drop, get_or, Some, slice_get, refl, sym, ap, ⊎_elim, slice_get_cases, list_any, take_more, take_all, take-append-drop}
 use Rattle.std.proofs.Common.{◌||◌, arith}
 use Rattle.std.proofs.lemmas.List.Folds.{list_any-append}
 

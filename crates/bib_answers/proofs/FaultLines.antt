@@ -9,7 +9,6 @@ use Rattle.bib_scan.specs.declared.fault.ReadFault.{ReadFault}
 use Rattle.bib_store.specs.Readings.{IsOpenFault}
 use Rattle.bib_faults.specs.GoingOn.{Fault}
 use Rattle.bib_faults.specs.Told.{told}
-use Rattle.bib_answers.specs.FindingLines.{with_faults}
 use Rattle.bib_answers.specs.Positions.{position_of}
 use Rattle.bib_answers.specs.Lint.{error_line, fault_line, fault_lines, name_at, place_at, IsFaultAnswer, IsLintAnswer, reading, other, faulty, refused}
 use Rattle.bib_answers.specs.declared.answers.Answer.{Answer}
@@ -72,31 +71,11 @@ alone_joined file = record { text = refl; spans = ap (λ n. let span : ℕ × �
 
 -- ---- lines that are added one after another
 
--- no faults add nothing
-pub faults_none : (w : Written) → w ≡ with_faults w []
-faults_none w = ap (λ (t : Text). record w { text = t }) (sym (append-nil w.text))
-
--- the line of a fault in one of these files
-abbrev line_in : Written → ReadFault → Text
-line_in w fault = error_line (name_at w.names w.files fault.place) (place_at w.files fault.place) fault.kind
-
--- the next of some faults
-pub faults_more : (w : Written) (faults : List ReadFault) (n : ℕ) (d : ReadFault) → n < length faults
-    → with_faults (with_faults w (take n faults)) (get_or faults n d ∷ []) ≡ with_faults w (take (n + 1) faults)
-faults_more w faults n d within =
-    ap (λ (t : Text). record w { text = t })
-    (ap (λ (t : Text). (w.text ++ flat_map (line_in w) (take n faults)) ++ t) (append-nil (line_in w (get_or faults n d)))
-    ∙ flat_map_more (line_in w) w.text (take n faults) (get_or faults n d)
-    ∙ ap (λ (l : List ReadFault). w.text ++ flat_map (line_in w) l) (sym (take_more faults n d within)))
-
--- one line more
-pub faults_step : (w v u : Written) (faults : List ReadFault) (n : ℕ) (d : ReadFault) → n < length faults → v ≡ with_faults w (take n faults)
-    → u ≡ with_faults v (get_or faults n d ∷ []) → u ≡ with_faults w (take (n + 1) faults)
-faults_step w v u faults n d within before more = more ∙ ap (λ (x : Written). with_faults x (get_or faults n d ∷ [])) before ∙ faults_more w faults n d within
-
--- the lines of faults of one file
-pub faults_alone : (w : Written) (name file : Text) (faults : List ReadFault) → w.names ≡ name ∷ [] → w.files ≡ file ∷ [] → w.text ≡ []
-    → (with_faults w faults).text ≡ flat_map (told_line name file) faults
-faults_alone w name file faults named filed empty =
-    ap₂ (λ (names files : List Text). w.text ++ flat_map (λ (fault : ReadFault). error_line (name_at names files fault.place) (place_at files fault.place) fault.kind) faults) named filed
-    ∙ ap (λ (t : Text). t ++ flat_map (told_line name file) faults) empty
+-- the line of the next of some faults
+pub told_more : (name file : Text) (faults : List ReadFault) (n : ℕ) (d : ReadFault) (lines next line : Text) → n < length faults → lines ≡ flat_map (told_line name file) (take n faults)
+    → line ≡ told_line name file (get_or faults n d) → next ≡ lines ++ line → next ≡ flat_map (told_line name file) (take (n + 1) faults)
+told_more name file faults n d lines next line within before is more =
+    more
+    ∙ ap₂ (λ (a b : Text). a ++ b) before is
+    ∙ flat_map_more (told_line name file) [] (take n faults) (get_or faults n d)
+    ∙ ap (λ (l : List ReadFault). flat_map (told_line name file) l) (sym (take_more faults n d within))

@@ -10,6 +10,7 @@ pub mod Shown
 pub mod Recurrences
 pub mod ReportSteps
 pub mod PositionSteps
+pub mod WalkSteps
 pub mod FindingSteps
 pub mod ItemFindings
 pub mod ToldKeys

@@ -10,10 +10,10 @@ use Rattle.bib_answers.specs.declared.positions.Known.{Known}
 use Rattle.bib_answers.specs.Positions.{position_of}
 
 -- after `count` bytes neither number is larger by more than `count`
-abbrev IsNear : Position → ℕ → Position → Type 0
+abbrev pub IsNear : Position → ℕ → Position → Type 0
 IsNear from count at = (at.line ≤ from.line + count) × (at.column ≤ from.column + count)
 
-near : (bytes : Text) (from : Position) → 1 ≤ from.column → IsNear from (length bytes) (fold position_after from bytes)
+pub near : (bytes : Text) (from : Position) → 1 ≤ from.column → IsNear from (length bytes) (fold position_after from bytes)
 near [] from least = (omega arith, omega arith)
 near (b ∷ bytes) from least = ⊎_elim
     (λ t. subst (λ (p : Position). IsNear from (suc (length bytes)) (fold position_after p bytes)) (sym (cond-true (b == line_feed) (position (from.line + 1) 1) (position from.line (from.column + 1)) t))

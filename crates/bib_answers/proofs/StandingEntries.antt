@@ -1,10 +1,10 @@
 -- Entries as they stand in the file, one after another.
-use Rattle.bib_answers.proofs.Words.{◌≡◌, ◌∙◌, ℕ, true, false, ◌+◌, ◌<◌, ◌≤◌, List, [], ◌∷◌, ◌++◌, length, take, get_or, map, slice_get, Option, Some, sym, ap, refl, option_map_or, take_all, take_more, length-map, filter_map-append, get_or_from_slice_get, same_Some, slice_get-map, cons_option, Text, Item, Reading, EntryTexts, View, view_of, entries_of, entry_named, entry_items, Position}
+use Rattle.bib_answers.proofs.Words.{◌≡◌, ◌∙◌, ℕ, true, false, ◌+◌, ◌<◌, ◌≤◌, List, [], ◌∷◌, ◌++◌, length, take, get_or, map, slice_get, Option, Some, sym, ap, option_map_or, take_all, take_more, length-map, filter_map-append, get_or_from_slice_get, same_Some, slice_get-map, cons_option, Text, Item, Reading, EntryTexts, View, view_of, entries_of, entry_named, entry_items, Position}
 use Rattle.std.proofs.Common.{arith, filter_map, option_map}
 use Rattle.std.proofs.lemmas.List.{map-append}
 use Rattle.bib_spec.specs.Tree.{tree_bytes}
 use Rattle.bib_store.specs.Readings.{entry_numbers}
-use Rattle.bib_store.proofs.EntryItems.{IsEntryAt, entry_at, entry_stands, length-entry_numbers, number_of_entry}
+use Rattle.bib_store.proofs.EntryItems.{entry_at, entry_stands, length-entry_numbers, number_of_entry}
 use Rattle.bib_answers.specs.Entry.{place_of, place_line, ended, item_text, standing, entry_text}
 
 -- ---- which entries

@@ -1,5 +1,5 @@
 -- Where items stand, one after another.
-use Rattle.bib_answers.proofs.Words.{◌==◌, ◌≡◌, ◌≢◌, ◌∙◌, ℕ, zero, suc, ◌+◌, ◌<◌, ◌≤◌, Bool, true, false, cond, List, [], ◌∷◌, ◌++◌, length, take, get_or, map, slice_get, Some, filter, append-nil, refl, sym, ap, ⊎_elim, cases_Bool, cond-true, cond-false, false≢true, take_all, take_more, get_or_from_slice_get, range_with_len, Text, Reading}
+use Rattle.bib_answers.proofs.Words.{◌==◌, ◌≡◌, ◌≢◌, ◌∙◌, ℕ, zero, suc, ◌+◌, ◌<◌, ◌≤◌, Bool, false, cond, List, [], ◌∷◌, ◌++◌, length, take, get_or, map, slice_get, Some, filter, append-nil, refl, sym, ap, ⊎_elim, cases_Bool, cond-true, cond-false, false≢true, take_all, take_more, get_or_from_slice_get, range_with_len, Text, Reading}
 use Rattle.std.proofs.Common.{arith, ◌-◌, min, nat_lt, if◌then◌else◌, length-append, ne_eqb}
 use Rattle.std.proofs.lemmas.Bool.{eqb-true, eq-eqb, cases_lt, lt-ltb, le-ltb}
 use Rattle.std.proofs.lemmas.List.FromFn.{length-map-range_with_len, get_or-map-range_with_len, length-range_with_len}

@@ -2,8 +2,7 @@
 use Rattle.std.specs.Prelude.{ℕ, List, ◌++◌}
 use Rattle.std.specs.List.{flat_map}
 use Rattle.bib_spec.specs.Text.{Text}
-use Rattle.bib_scan.specs.declared.fault.ReadFault.{ReadFault}
-use Rattle.bib_answers.specs.Lint.{Finding, finding_line, error_line, name_at, place_at}
+use Rattle.bib_answers.specs.Lint.{Finding, finding_line}
 
 -- the codes that are ignored, the names and bytes of the files, where the item that is looked at begins, and the lines so far
 pub record Written : Type 0 where
@@ -20,7 +19,3 @@ at_item w start = record w { start = start }
 -- with the lines of these findings added, but for those whose codes are ignored
 abbrev pub with_findings : Written → List Finding → Written
 with_findings w findings = record w { text = w.text ++ flat_map (finding_line w.ignored w.names w.files w.start) findings }
-
--- with the lines of these faults of reading added, each with its place
-abbrev pub with_faults : Written → List ReadFault → Written
-with_faults w faults = record w { text = w.text ++ flat_map (λ fault. error_line (name_at w.names w.files fault.place) (place_at w.files fault.place) fault.kind) faults }

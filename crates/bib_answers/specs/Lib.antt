@@ -20,6 +20,8 @@ pub mod Extract
 pub mod Positions
 pub mod Warnings
 pub mod Lint
+pub mod Plain
+pub mod Walking
 pub mod FindingLines
 pub mod LintedThrough
 pub mod Told

@@ -25,6 +25,11 @@ placed_line number name place = codes "bibkeep: " ++ (decimal number ++ (codes "
 abbrev pub refusal_line : ℕ → ℕ → Text
 refusal_line kind place = placed_line kind (fault_name kind) place
 
+-- `bibkeep: N Name at P in FILE`, a line: why a source with this name is not read (dialect)
+abbrev pub refusal_in : ℕ → ℕ → Text → Text
+refusal_in kind place name =
+    codes "bibkeep: " ++ (decimal kind ++ (codes " " ++ (fault_name kind ++ (codes " at " ++ (decimal place ++ (codes " in " ++ (name ++ codes "\n")))))))
+
 -- no entry has the key (dialect)
 abbrev pub no_such_entry_line : Text
 no_such_entry_line = codes "bibkeep: 11 NoSuchEntry\n"

@@ -1,19 +1,19 @@
 //! Findings that are written as lines.
 
 ghost use Rattle.std.specs.Prelude.{◌≡◌, ◌+◌, ◌++◌, IfSome, OnOk};
-ghost use Rattle.bib_answers.specs.Lint.{placed_at, is_ignored, warning_line};
+ghost use Rattle.bib_answers.specs.Lint.{placed_at, is_ignored, warning_line, error_line};
 
 use crate::lines::add_all;
 use crate::messages::fault_name;
 use crate::named_files::{NamedFiles, Reached, first_reached, reached_at};
 use crate::positions::Position;
 use crate::warnings::Warning;
-use bib_scan::{ReadFault, Text};
+use bib_scan::Text;
 use itoa::Buffer;
 use std::alloc::{AllocError, Global};
 use std::marker::Model;
 
-/// The lines of findings in files that were read as one. Each position is counted from the last one: if the places come in order,
+/// The lines of findings in files that are open as one. Each position is counted from the last one: if the places come in order,
 /// all of them together take time in the length of the files, and a search in the list of files each. A finding whose code is
 /// ignored gets no line. A contract sees the ignored codes, the names and bytes of the files, the place of the item in which
 /// something is found, and the lines so far.
@@ -39,9 +39,9 @@ impl<'a> Model for FindingLines<'a> {
 }
 
 impl<'a> FindingLines<'a> {
-    ghost use Rattle.std.specs.Prelude.{◌≡◌, ◌++◌, ◌+◌, ◌∷◌, [], OnOk};
+    ghost use Rattle.std.specs.Prelude.{◌≡◌, ◌++◌, ◌+◌, [], OnOk};
     ghost use Rattle.bib_answers.specs.Lint.{found};
-    ghost use Rattle.bib_answers.specs.FindingLines.{Written, at_item, with_findings, with_faults};
+    ghost use Rattle.bib_answers.specs.FindingLines.{Written, at_item, with_findings};
 
     /// No lines yet, of these files, for findings with other codes than these.
     pub fn new(alloc: Global, ignored: &'a [Text], files: &'a NamedFiles<'a>) -> Self
@@ -92,29 +92,6 @@ impl<'a> FindingLines<'a> {
         self.add_after(kind, at, 0, name)
     }
 
-    /// Adds the line of a fault of reading.
-    fn add_fault(&mut self, fault: &ReadFault) -> Result<(), AllocError>
-        ensures { OnOk result (self.new ≡ with_faults self.old (fault.now ∷ [])) }
-    {
-        self.reached = reached_at(self.files, self.reached, fault.place);
-        let file = self.files.name_at(fault.place);
-        add_place(&mut self.text, file, self.reached.known.at)?;
-        let mut number = Buffer::new();
-        let number = number.format(fault.kind).as_bytes();
-        let name = fault_name(fault.kind).as_bytes();
-        add_all(&mut self.text, &[b"error: ", number, b" ", name, b"\n"])
-    }
-
-    /// Adds a line for each fault of reading.
-    pub fn add_faults(&mut self, faults: &[ReadFault]) -> Result<(), AllocError>
-        ensures { OnOk result (self.new ≡ with_faults self.old faults.now) }
-    {
-        'faults: for fault in faults {
-            self.add_fault(fault)?;
-        }
-        Ok(())
-    }
-
     /// The lines.
     pub fn into_text(self) -> Vec<u8>
         ensures { result.items ≡ self.entry.text }
@@ -147,6 +124,17 @@ pub fn add_warning(
     add_all(out, &[b"warning: ", before])?;
     out.extend_from_slice(name)?;
     add_all(out, &[after, b" [", code, b"]\n"])
+}
+
+/// Adds the line of a fault of reading at this position, which has this number.
+pub fn add_error(out: &mut Vec<u8>, file: &[u8], at: Position, kind: u8) -> Result<(), AllocError>
+    ensures { OnOk result (out.new.items ≡ out.old.items ++ error_line file.now at kind) }
+{
+    add_place(out, file, at)?;
+    let mut number = Buffer::new();
+    let number = number.format(kind).as_bytes();
+    let name = fault_name(kind).as_bytes();
+    add_all(out, &[b"error: ", number, b" ", name, b"\n"])
 }
 
 /// Whether the code of this kind is among those that are ignored.

@@ -36,6 +36,7 @@ mod show;
 mod standings;
 mod text_findings;
 mod told_keys;
+mod walking;
 mod warnings;
 mod written;
 
@@ -49,7 +50,7 @@ pub use extract::{answer_extract, extract_in};
 pub use json::{answer_json, json_in};
 pub use labels::{answer_labels, labels_in};
 pub use lint::{answer_lint, lint_fault, lint_in};
-pub use messages::{fault_name, placed_line};
+pub use messages::{fault_name, placed_line, refusal_in};
 pub use named_files::NamedFiles;
 pub use names::{answer_names, names_in};
 pub use newkeys::{answer_newkeys, newkeys_in};

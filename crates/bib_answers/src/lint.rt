@@ -1,6 +1,6 @@
 //! `lint`: what is wrong with a file, a line each, as compilers write it.
 
-ghost use Rattle.std.specs.Prelude.{◌≡◌, ◌+◌, ◌<◌, ◌^◌, ℕ, List, [], ◌∷◌, nat_lt, IfOk, OnOk};
+ghost use Rattle.std.specs.Prelude.{◌≡◌, ◌≢◌, ◌+◌, ◌<◌, ◌^◌, ℕ, List, [], ◌∷◌, nat_lt, IfOk, OnOk};
 ghost use Rattle.std.specs.List.{flat_map};
 ghost use Rattle.bib_faults.specs.GoingOn.{Fault, Faults};
 ghost use Rattle.aux_text.specs.declared.placing.AuxKeys.{AuxKeys as Cited};
@@ -13,13 +13,14 @@ ghost use Rattle.bib_store.specs.Readings.{OfReading, IsItemNumber, IsOpenFault}
 use crate::answers::{Answer, outcome_of};
 use crate::check::counted;
 use crate::empty_parents::has_empty_parents;
-use crate::finding_lines::FindingLines;
+use crate::finding_lines::{FindingLines, add_error};
 use crate::findings::add_item_findings;
 use crate::gap_findings::add_gap_findings;
 use crate::kinds::is_same_kind;
 use crate::missing_keys::add_missing_keys;
 use crate::named_files::NamedFiles;
 use crate::numbered::NumberedItem;
+use crate::positions::{first_known, known_at};
 use crate::seen_names::SeenNames;
 use aux_text::AuxKeys;
 use bib_faults::read_all;
@@ -37,15 +38,15 @@ const LAST_OF_READING: u8 = 7;
 pub fn answer_lint(
     alloc: Global,
     name: &[u8],
-    file: &[u8],
+    file: Vec<u8>,
     ignored: &[Text],
     cited: &[AuxKeys],
 ) -> Result<Answer, AllocError>
-    ensures { IfOk result (IsLintAnswer ignored.now cited.now name.now file.now) }
+    ensures { IfOk result (IsLintAnswer ignored.now cited.now name.now file.items) }
 {
-    match Database::open_bytes(alloc, file, Paged::new(alloc)) {
-        Ok(db) => lint_alone(alloc, &db, name, file, ignored, cited),
-        Err(fault) => unread(alloc, name, file, fault),
+    match Database::open_or_return(alloc, file, Paged::new(alloc)) {
+        Ok(db) => lint_alone(alloc, &db, name, ignored, cited),
+        Err(unopened) => unread(alloc, name, unopened.file.as_slice(), unopened.fault),
     }
 }
 
@@ -59,8 +60,8 @@ fn is_past_reading(fault: ReadFault) -> bool
 /// The answer to a file that is not opened: each fault of reading, or the one fault for which a file that has none is not
 /// opened. Want of memory is no answer.
 fn unread(alloc: Global, name: &[u8], file: &[u8], fault: ReadFault) -> Result<Answer, AllocError>
-    requires { IsOpenFault file.now fault.kind fault.place }
-    ensures { IfOk result (λ answer. (ignored : List (List ℕ)) (cited : List Cited) → IsLintAnswer ignored cited name.now file.now answer) }
+    requires { fault.kind ≢ 10 → IsOpenFault file.now fault.kind fault.place }
+    ensures { IfOk result (λ answer. (fault.kind ≢ 10) × ((ignored : List (List ℕ)) (cited : List Cited) → IsLintAnswer ignored cited name.now file.now answer)) }
 {
     if fault.is_memory() {
         return Err(AllocError);
@@ -104,12 +105,13 @@ fn answer_faults(
 ) -> Result<Answer, AllocError>
     ensures { IfOk result (λ answer. answer ≡ answer_of (flat_map (λ fault. error_line name.now (position_of file.now fault.place) fault.kind) faults.now) [] 1) }
 {
-    let names = alone(alloc, name)?;
-    let spans = [(0, file.len())];
-    let files = NamedFiles::new(names.as_slice(), file, &spans);
-    let mut lines = FindingLines::new(alloc, &[], &files);
-    lines.add_faults(faults)?;
-    Ok(told(alloc, lines.into_text(), status::REFUSED))
+    let mut lines = Vec::new(alloc);
+    let mut known = first_known();
+    'faults: for fault in faults {
+        known = known_at(file, known, fault.place);
+        add_error(&mut lines, name, known.at, fault.kind)?;
+    }
+    Ok(told(alloc, lines, status::REFUSED))
 }
 
 /// The answer with these lines as output, and this status.
@@ -133,20 +135,19 @@ fn status_of(lines: &[u8]) -> u8
     }
 }
 
-/// What is wrong with an open file that has this name and these bytes, and which of the keys that are cited no entry has.
+/// What is wrong with an open file that has this name, and which of the keys that are cited no entry has.
 fn lint_alone(
     alloc: Global,
     db: &Database<Paged>,
     name: &[u8],
-    file: &[u8],
     ignored: &[Text],
     cited: &[AuxKeys],
 ) -> Result<Answer, AllocError>
-    ensures { IfOk result (λ answer. OfReading db.now (λ r. answer ≡ lint_answer ignored.now cited.now name.now file.now r)) }
+    ensures { IfOk result (λ answer. OfReading db.now (λ r. answer ≡ lint_answer ignored.now cited.now name.now db.now r)) }
 {
     let names = alone(alloc, name)?;
-    let spans = [(0, file.len())];
-    let files = NamedFiles::new(names.as_slice(), file, &spans);
+    let spans = [(0, db.byte_count())];
+    let files = NamedFiles::new(names.as_slice(), db, &spans);
     lint_in(alloc, db, &files, ignored, cited)
 }
 

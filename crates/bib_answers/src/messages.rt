@@ -1,7 +1,7 @@
 //! What an answer says besides its output, a line each.
 
 ghost use Rattle.std.specs.Prelude.{◌≡◌, IfOk, codes};
-ghost use Rattle.bib_answers.specs.Messages.{fault_name, placed_line, no_such_entry_in, refusal_line};
+ghost use Rattle.bib_answers.specs.Messages.{fault_name, placed_line, no_such_entry_in, refusal_line, refusal_in};
 
 use crate::lines::add_all;
 use bib_scan::{ReadFault, Text};
@@ -35,6 +35,17 @@ pub fn refusal_line(alloc: Global, fault: ReadFault) -> Result<Text, AllocError>
     ensures { IfOk result (λ line. line ≡ refusal_line fault.kind fault.place) }
 {
     placed_line(alloc, fault.kind, fault_name(fault.kind), fault.place)
+}
+
+/// Why a source with this name is not read, a line.
+pub fn refusal_in(alloc: Global, kind: u8, place: usize, name: &[u8]) -> Result<Text, AllocError>
+    ensures { IfOk result (λ line. line ≡ refusal_in kind place name.now) }
+{
+    let said = format!(in alloc; "bibkeep: {} {} at {} in ", kind, fault_name(kind), place)?;
+    let mut line = said.into_bytes();
+    line.extend_from_slice(name)?;
+    line.extend_from_slice(b"\n")?;
+    Ok(Text::from_vec(line))
 }
 
 /// The name of a fault of reading, by its number.

@@ -35,7 +35,7 @@ pub fn first_known() -> Known
 }
 
 /// The known place, or the first place of the file if the known place is after this one.
-fn known_before(known: Known, place: usize) -> Known
+pub(crate) fn known_before(known: Known, place: usize) -> Known
     ensures known { (file : List ℕ) → IsKnown file known → IsKnown file result }
     ensures place { result.place ≤ place }
 {
@@ -47,7 +47,7 @@ fn known_before(known: Known, place: usize) -> Known
 }
 
 /// The position after the bytes, if `from` is the position of the first byte.
-fn moved(from: Position, bytes: &[u8]) -> Position
+pub(crate) fn moved(from: Position, bytes: &[u8]) -> Position
     requires line { from.line + length bytes.now < 2 ^ 64 }
     requires column { from.column + length bytes.now < 2 ^ 64 }
     ensures { result ≡ fold position_after from bytes.now }

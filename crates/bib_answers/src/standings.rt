@@ -6,7 +6,7 @@ ghost use Rattle.std.specs.Option.{option_copied};
 ghost use Rattle.bib_store.specs.Readings.{OfReading};
 ghost use Rattle.bib_answers.specs.Raw.{standing_of};
 
-use crate::named_files::{NamedFiles, Reached, reached_at};
+use crate::named_files::{NamedFiles, first_reached, reached_at};
 use crate::positions::{first_known, known_at};
 use bib_store::{Database, Paged};
 use entry_json::Standing;
@@ -58,10 +58,7 @@ fn standings_in(
 {
     db.opens();
     let mut all = Vec::with_capacity(alloc, db.item_count())?;
-    let mut reached = Reached {
-        file: 0,
-        known: first_known(),
-    };
+    let mut reached = first_reached();
     // how many items were seen of the file that was reached
     let mut count = 0;
     'items: for m in 0..db.item_count() {

@@ -1,12 +1,11 @@
 //! What is found in the text of a field.
 
-ghost use Rattle.std.specs.Prelude.{◌≡◌, [], IsTrue, IfOk, OnOk};
-ghost use Rattle.std.specs.Char.{is_ascii};
-ghost use Rattle.std.specs.List.{list_all};
+ghost use Rattle.std.specs.Prelude.{◌≡◌, ◌≤◌, [], length, IsTrue, IfOk, OnOk};
+ghost use Rattle.std.specs.List.{count_by};
 ghost use Rattle.std.specs.Str.{is_utf8};
 ghost use Rattle.bib_spec.specs.Bytes.{name_limit};
 ghost use Rattle.bib_spec.specs.Reading.{IsValueWithin};
-ghost use Rattle.bib_spec.specs.Texts.{raw_text, field_text};
+ghost use Rattle.bib_spec.specs.Texts.{Macros, raw_text, field_text};
 ghost use Rattle.bib_scan.specs.PartView.{part_view};
 ghost use Rattle.bib_scan.specs.ValueParts.{IsPartsOf};
 ghost use Rattle.bib_scan.specs.View.{Field, field_seen};
@@ -14,16 +13,21 @@ ghost use Rattle.bib_value.specs.Raw.{OfValue};
 ghost use Rattle.bib_persons.specs.Persons.{has_names, refused_names};
 ghost use Rattle.bib_answers.specs.Lint.{is_use, has_uses, refused_findings, field_encoding_findings, text_findings, own_findings};
 ghost use Rattle.bib_answers.specs.FindingLines.{with_findings};
+ghost use Rattle.bib_answers.specs.Plain.{is_other};
 
 use crate::finding_lines::FindingLines;
 use crate::warnings::Warning;
 use bib_persons::{has_few_commas, has_names, refused_names};
 use bib_scan::{FieldView, Part, Parts, Text, only_part, read_value};
-use bib_value::{MacroTable, field_text, part_text, raw_text};
+use bib_value::{MacroTable, field_text, raw_text};
 use std::alloc::{AllocError, Global};
 use std::str;
 
-/// Adds what is found in the text of a field of an entry whose value uses no macro. It takes time in the value's length.
+/// How many bytes a run has at most: a count of some of them fits a byte.
+const RUN: usize = 255;
+
+/// Adds what is found in the text of a field of an entry whose value uses no macro. It takes time in the value's length. Most values
+/// are plain, and are not taken apart.
 pub fn add_own_findings<M: MacroTable>(
     alloc: Global,
     lines: &mut FindingLines<'_>,
@@ -33,11 +37,15 @@ pub fn add_own_findings<M: MacroTable>(
     requires { IsValueWithin name_limit field.value.now }
     ensures { OnOk result (OfValue field.entry.value.now (λ v. lines.new ≡ with_findings lines.old (own_findings (M.macros macros.now) (field_seen field.entry) v))) }
 {
+    if is_plain(field.name, field.value) {
+        return Ok(());
+    }
     let uses = has_uses(alloc, field.value)?;
     if uses {
         return Ok(());
     }
-    add_text_findings(alloc, lines, macros, field)
+    let text = value_text(alloc, macros, field.value)?;
+    add_findings_in(alloc, lines, field, text.as_slice())
 }
 
 /// Whether a value uses a macro.
@@ -78,24 +86,7 @@ fn is_use(part: Part<'_>) -> bool
     }
 }
 
-/// Adds what is found in the text of a field of an entry. Most texts are plain, and are not put together.
-fn add_text_findings<M: MacroTable>(
-    alloc: Global,
-    lines: &mut FindingLines<'_>,
-    macros: &M,
-    field: FieldView<'_>,
-) -> Result<(), AllocError>
-    requires { IsValueWithin name_limit field.value.now }
-    ensures { OnOk result (OfValue field.entry.value.now (λ v. lines.new ≡ with_findings lines.old (text_findings (field_seen field.entry) (field_text (raw_text (M.macros macros.now) v))))) }
-{
-    if is_plain_alone(macros, field) {
-        return Ok(());
-    }
-    let text = value_text(alloc, macros, field.value)?;
-    add_findings_in(alloc, lines, field, text.as_slice())
-}
-
-/// The same, of a field with this text.
+/// Adds what is found in a field with this text.
 fn add_findings_in(
     alloc: Global,
     lines: &mut FindingLines<'_>,
@@ -136,30 +127,54 @@ pub fn is_utf8(bytes: &[u8]) -> bool
 
 /// Whether each byte is ASCII.
 fn is_ascii(text: &[u8]) -> bool
-    ensures { result ≡ list_all is_ascii text.now }
+    ensures { IsTrue result → count_by is_other text.now ≡ 0 }
 {
-    text.iter().all(|byte| byte.is_ascii())
+    other_count(text) == 0
 }
 
-/// Whether nothing can be found in a field with this name and raw text: both are ASCII, and if it is a list of names, it has few
-/// commas.
-fn is_plain(name: &[u8], raw: &[u8]) -> bool
-    ensures { IsTrue result → (field : Field) → field.name ≡ name.now → text_findings field (field_text raw.now) ≡ [] }
+/// How many bytes are not ASCII. They are counted run by run: while a count fits a byte, the processor counts many bytes at once.
+fn other_count(text: &[u8]) -> usize
+    ensures { result ≡ count_by is_other text.now }
 {
-    if !is_ascii(name) || !is_ascii(raw) {
+    let mut count = 0;
+    let mut rest = text;
+    'runs: while rest.len() > RUN {
+        let (run, more) = rest.split_at(RUN);
+        count += usize::from(count_in_run(run));
+        rest = more;
+    }
+    count + usize::from(count_in_run(rest))
+}
+
+/// How many bytes of a run are not ASCII.
+fn count_in_run(run: &[u8]) -> u8
+    requires { length run.now ≤ 255 }
+    ensures { result ≡ count_by is_other run.now }
+{
+    let mut count = 0;
+    'bytes: for byte in run {
+        if !byte.is_ascii() {
+            count += 1;
+        }
+    }
+    count
+}
+
+/// Whether nothing can be found in the text of a field with this name and these bytes of its value, whatever macros say: name and
+/// value are ASCII, and if it is a list of names, it has few commas. What a value says without a macro is in its bytes.
+fn is_plain(name: &[u8], value: &[u8]) -> bool
+    ensures { IsTrue result → (field : Field) (macros : Macros) → field.name ≡ name.now → OfValue value.now (λ v. own_findings macros field v ≡ []) }
+{
+    if !is_ascii(name) {
         return false;
     }
-    !has_names(name) || has_few_commas(raw)
-}
-
-/// Whether the value of a field has one part in which nothing can be found.
-fn is_plain_alone<M: MacroTable>(macros: &M, field: FieldView<'_>) -> bool
-    ensures { IsTrue result → OfValue field.entry.value.now (λ v. text_findings (field_seen field.entry) (field_text (raw_text (M.macros macros.now) v)) ≡ []) }
-{
-    match only_part(field.value) {
-        Some(part) => is_plain(field.name, part_text(part, macros, None)),
-        None => false,
+    if !is_ascii(value) {
+        return false;
     }
+    if has_names(name) {
+        return has_few_commas(value);
+    }
+    true
 }
 
 /// Adds the names of a list with this text that `names` refuses.

@@ -1,12 +1,13 @@
 -- What each call does to the state behind a handle, and what it reports. (dialect)
-use Rattle.std.specs.Prelude.{◌≡◌, ℕ, Bool, List, Option, Some, None, if◌then◌else◌}
+use Rattle.std.specs.Prelude.{◌≡◌, ℕ, Bool, true, List, Option, Some, None, if◌then◌else◌}
 use Rattle.bib_spec.specs.Text.{Text}
 use Rattle.bib_spec.specs.Records.{IsDepth}
 use Rattle.bib_data.specs.declared.request.Request.{Request}
 use Rattle.bib_words.specs.declared.commands.Command.{Command}
-use Rattle.bib_words.specs.Command.{IsCommand}
+use Rattle.bib_words.specs.Command.{IsCommand, has_others}
 use Rattle.bib_answers.specs.declared.answers.Answer.{Answer}
 use Rattle.bib_run.specs.Answers.{IsAnswer}
+use Rattle.shelf_run.specs.Answers.{IsShelfAnswer}
 use Rattle.bib_journal.specs.OpenSteps.{SessionState}
 use Rattle.bib_journal.specs.Session.{IsOpened, RefusesOpen, Begins, Ends, RefusesEnd}
 use Rattle.bib_state.specs.Calls.{Moves, IsOpen, RefusesCall, BySession, OnlyMemory, MakesWords, RefusesWords, RefusesLabel, Turns, DoesScript, nothing_given, GivesSaved, GivesFile}
@@ -164,3 +165,19 @@ pub data Runs (asked : Option Command) (file : Text) (journal : Option Text) (in
   unknown : (command : Command) → asked ≡ Some command → ¬ IsCommand command → status ≡ 2 → new ≡ forgotten old → Runs asked file journal input status old new
   short : asked ≡ None → status ≡ 2 → new ≡ forgotten old → Runs asked file journal input status old new
   memory : status ≡ 4 → new ≡ forgotten old → Runs asked file journal input status old new
+
+-- a command of the program that names files which are read with its own
+abbrev pub IsOverFiles : Command → Type 0
+IsOverFiles command = IsCommand command × (has_others command ≡ true)
+
+-- The command is run over files with these names and bytes, which are read as one; or the program has no such command over files,
+-- or the names or the bytes are too short for their lengths, which is status 2; or memory ran out, which is status 4. The session
+-- stays as it is.
+pub data RunsFiles (asked : Option Command) (names files : Option (List Text)) (status : ℕ) (old new : State) : Type 0 where
+  answered : (command : Command) (named texts : List Text) → asked ≡ Some command → names ≡ Some named → files ≡ Some texts
+      → IsShelfAnswer command named texts new.answer → status ≡ new.answer.outcome.status → new.session ≡ old.session → RunsFiles asked names files status old new
+  unknown : (command : Command) → asked ≡ Some command → ¬ IsOverFiles command → status ≡ 2 → new ≡ forgotten old → RunsFiles asked names files status old new
+  short : asked ≡ None → status ≡ 2 → new ≡ forgotten old → RunsFiles asked names files status old new
+  short_names : names ≡ None → status ≡ 2 → new ≡ forgotten old → RunsFiles asked names files status old new
+  short_files : files ≡ None → status ≡ 2 → new ≡ forgotten old → RunsFiles asked names files status old new
+  memory : status ≡ 4 → new ≡ forgotten old → RunsFiles asked names files status old new

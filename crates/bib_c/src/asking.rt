@@ -1,7 +1,7 @@
 //! A command as C gives it.
 
 ghost use Rattle.std.specs.Prelude.{◌≡◌, IfOk};
-ghost use Rattle.bib_c.specs.Asking.{command_of, asked_of};
+ghost use Rattle.bib_c.specs.Asking.{command_of, asked_of, asked_among};
 
 use crate::words::words_of;
 use bib_run::Command;
@@ -20,6 +20,7 @@ pub struct Options {
     pub dropped: bool,
     pub at: bool,
     pub strict: bool,
+    pub latex: bool,
     pub raw: bool,
 }
 
@@ -45,27 +46,60 @@ pub fn asked_of(
             copied(alloc, name)?,
             words,
             aux,
+            Seq::empty(alloc),
             options,
         ))),
         _ => Ok(None),
     }
 }
 
-/// The command with this name, these arguments, aux files and options, and no other files.
+/// The same command over files with these names, each name as one text and lengths too.
+pub fn asked_among(
+    alloc: Global,
+    name: &[u8],
+    words: &[u8],
+    lens: &[usize],
+    aux: &[u8],
+    aux_lens: &[usize],
+    names: &[u8],
+    name_lens: &[usize],
+    options: &Options,
+) -> Result<Option<Command>, AllocError>
+    ensures { IfOk result (λ command. command ≡ asked_among name.now words.now lens.now aux.now aux_lens.now names.now name_lens.now options.now) }
+{
+    match (
+        words_of(alloc, words, lens)?,
+        words_of(alloc, aux, aux_lens)?,
+        words_of(alloc, names, name_lens)?,
+    ) {
+        (Some(words), Some(aux), Some(names)) => Ok(Some(command_of(
+            alloc,
+            copied(alloc, name)?,
+            words,
+            aux,
+            names,
+            options,
+        ))),
+        _ => Ok(None),
+    }
+}
+
+/// The command with this name, these arguments, aux files, other files and options.
 fn command_of(
     alloc: Global,
     name: Text,
     words: Seq<Text>,
     aux: Seq<Text>,
+    others: Seq<Text>,
     options: &Options,
 ) -> Command
-    ensures { result ≡ command_of name words aux options.now }
+    ensures { result ≡ command_of name words aux others options.now }
 {
     Command {
         name,
         words,
         aux,
-        before: Seq::empty(alloc),
+        before: others,
         after: Seq::empty(alloc),
         cited: Seq::empty(alloc),
         n: options.n,
@@ -77,7 +111,7 @@ fn command_of(
         dropped: options.dropped,
         at: options.at,
         strict: options.strict,
-        latex: false,
+        latex: options.latex,
         raw: options.raw,
     }
 }

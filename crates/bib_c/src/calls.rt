@@ -187,7 +187,7 @@ fn run_known(
 }
 
 /// Forgets the texts of the call before, and gives this status.
-fn refuse(alloc: Global, state: &mut State, status: u8) -> u8
+pub(crate) fn refuse(alloc: Global, state: &mut State, status: u8) -> u8
     ensures status { result ≡ status }
     ensures forgotten { state.new ≡ forgotten state.old }
 {

@@ -3,12 +3,14 @@
 ghost use Rattle.std.specs.Prelude.{◌≡◌, ◌≢◌, Some, None, IsTrue, IsFalse};
 ghost use Rattle.bib_data.specs.declared.request.Request.TheVariants.{Undo, Redo};
 ghost use Rattle.bib_state.specs.Calls.{undo_count, redo_count};
-ghost use Rattle.bib_c.specs.Asking.{asked_of};
+ghost use Rattle.bib_c.specs.Asking.{asked_of, asked_among};
+ghost use Rattle.bib_c.specs.Words.{words_of};
 ghost use Rattle.bib_c.specs.Texts.{text_given, IsLength, IsCopy};
-ghost use Rattle.bib_c.specs.Calls.{Changes, Holds, fresh, forgotten, journal_if, Opens, Edits, RunsScript, BeginsStep, EndsStep, TurnsSteps, SavesFile, SavesBoth, TellsEntry, TellsKeys, Runs};
+ghost use Rattle.bib_c.specs.Calls.{Changes, Holds, fresh, forgotten, journal_if, Opens, Edits, RunsScript, BeginsStep, EndsStep, TurnsSteps, SavesFile, SavesBoth, TellsEntry, TellsKeys, Runs, RunsFiles};
 
 use crate::asking::Options;
 use crate::calls;
+use crate::files::run_files;
 use crate::handle::Handle;
 use crate::report::Report;
 use crate::texts::{copy_given, len_given};
@@ -267,6 +269,35 @@ pub extern "C" fn bib_c_run(
         has_journal,
         journal,
         input,
+    );
+    *handle = Handle::of(state);
+    status
+}
+
+/// Runs a command over several files that are read as one, and gives its exit status: 2 if the program has no such command. The names
+/// of the files, in the order in which they are read, and their bytes are each one text, and the length of each.
+#[unsafe(no_mangle)]
+pub extern "C" fn bib_c_run_files(
+    alloc: Global,
+    handle: &mut Handle,
+    name: &[u8],
+    words: &[u8],
+    lens: &[usize],
+    aux: &[u8],
+    aux_lens: &[usize],
+    options: &Options,
+    names: &[u8],
+    name_lens: &[usize],
+    files: &[u8],
+    file_lens: &[usize],
+) -> u8
+    requires { handle.old.state ≢ None }
+    ensures { Changes (RunsFiles (asked_among name.now words.now lens.now aux.now aux_lens.now names.now name_lens.now options.now) (words_of names.now name_lens.now) (words_of files.now file_lens.now) result) handle.old.state handle.new.state }
+{
+    let mut state = handle.take(alloc);
+    let status = run_files(
+        alloc, &mut state, name, words, lens, aux, aux_lens, options, names, name_lens, files,
+        file_lens,
     );
     *handle = Handle::of(state);
     status

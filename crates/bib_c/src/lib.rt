@@ -6,6 +6,7 @@
 mod asking;
 mod calls;
 mod exports;
+mod files;
 mod handle;
 mod loose;
 mod report;

@@ -34,6 +34,10 @@ needed_keys = record keys { required = true }
 abbrev pub edit_words : Rule
 edit_words = record (new_rule (codes "WORD")) { range = Some (record { start_inclusive = 1; end_inclusive = usize_max }) }
 
+-- `[POSITION]`
+abbrev pub position : Rule
+position = new_rule (codes "POSITION")
+
 -- `--aux AUX`, any number of times
 abbrev pub aux_files : Rule
 aux_files = record (new_rule (codes "AUX")) { long = Some (codes "aux"); action = Some Append }
@@ -136,6 +140,10 @@ edit_or_print_line = with_rule (with_rule (over_file (codes "edit")) edit_words)
 abbrev pub edit_line : App
 edit_line = with_rule (adding edit_or_print_line) (switch (codes "all-or-nothing"))
 
+-- `insert F [--print] [--new-journal] [--no-journal] [POSITION]`
+abbrev pub insert_line : App
+insert_line = adding (with_rule (with_rule (over_file (codes "insert")) position) (switch (codes "print")))
+
 -- `undo F [--steps N] [--print]`; the same for `redo`
 abbrev pub steps_line : Text → App
 steps_line name = with_rule (with_rule (over_file name) (count (codes "steps") (codes "1"))) (switch (codes "print"))
@@ -147,6 +155,14 @@ ris_line = with_rule (keys_line (codes "ris")) (switch (codes "dropped"))
 -- `import F [--print] [--new-journal] [--no-journal] [--latex]`
 abbrev pub import_line : App
 import_line = with_rule (adding (with_rule (over_file (codes "import")) (switch (codes "print")))) (switch (codes "latex"))
+
+-- `merge BASE OURS THEIRS [--print]`
+abbrev pub merge_line : App
+merge_line = with_rule (with_rule (with_rule (with_rule (new_app (codes "merge")) (needed (codes "BASE"))) (needed (codes "OURS"))) (needed (codes "THEIRS"))) (switch (codes "print"))
+
+-- `diff OLD NEW`
+abbrev pub diff_line : App
+diff_line = with_rule (with_rule (new_app (codes "diff")) (needed (codes "OLD"))) (needed (codes "NEW"))
 
 -- `explain FAULT`
 abbrev pub explain_line : App
@@ -179,11 +195,12 @@ bibkeep_makes = adds (adds (adds (adds bibkeep_shows (keys_line (codes "labels")
 
 -- and with those that change a file, and those over its journal
 abbrev pub bibkeep_edits : App
-bibkeep_edits = adds (adds (adds (adds (adds bibkeep_makes edit_line) (steps_line (codes "undo"))) (steps_line (codes "redo"))) (over_file (codes "log"))) (over_file (codes "forget"))
+bibkeep_edits =
+    adds (adds (adds (adds (adds (adds bibkeep_makes edit_line) insert_line) (steps_line (codes "undo"))) (steps_line (codes "redo"))) (over_file (codes "log"))) (over_file (codes "forget"))
 
 -- the whole command line, `bibkeep COMMAND`
 abbrev pub bibkeep : App
-bibkeep = adds (adds (adds (adds bibkeep_edits ris_line) (cited_line (codes "extract"))) import_line) explain_line
+bibkeep = adds (adds (adds (adds (adds (adds bibkeep_edits ris_line) (cited_line (codes "extract"))) import_line) merge_line) diff_line) explain_line
 
 -- ---- the command that clap's matches name
 
@@ -212,7 +229,7 @@ given name rows = option_map_or (λ text. bytes_eq text (codes "true")) (one_of 
 
 -- the positional words, in order, and after them the codes to ignore
 abbrev pub words_in : List Row → List Text
-words_in rows = values (codes "F") rows ++ values (codes "KEY") rows ++ values (codes "TEMPLATE") rows ++ values (codes "WORD") rows ++ values (codes "FAULT") rows ++ values (codes "CODE") rows
+words_in rows = values (codes "F") rows ++ values (codes "BASE") rows ++ values (codes "OURS") rows ++ values (codes "THEIRS") rows ++ values (codes "OLD") rows ++ values (codes "NEW") rows ++ values (codes "KEY") rows ++ values (codes "TEMPLATE") rows ++ values (codes "WORD") rows ++ values (codes "POSITION") rows ++ values (codes "FAULT") rows ++ values (codes "CODE") rows
 
 -- the command of this name with these matches
 abbrev pub command_of : Text → List Row → Command

@@ -2,7 +2,7 @@
 
 ghost use Rattle.std.specs.Prelude.{◌≡◌, false, codes};
 ghost use Rattle.clap.specs.Words.{rule_of};
-ghost use Rattle.bib_command.specs.CommandLine.{any_file, needed, keys, needed_keys, aux_files, files_before, files_after, edit_words, switch, ignore, count, levels};
+ghost use Rattle.bib_command.specs.CommandLine.{any_file, needed, keys, needed_keys, position, aux_files, files_before, files_after, edit_words, switch, ignore, count, levels};
 
 use clap::{Arg, ArgAction, value_parser};
 use std::alloc::Global;
@@ -19,6 +19,15 @@ pub fn needed<'a>(alloc: Global, id: &'a str, help: &'a str) -> Arg<'a>
     ensures local { result.global ≡ false }
 {
     Arg::new(alloc, id).required(true).help(help)
+}
+
+pub fn position<'a>(alloc: Global) -> Arg<'a>
+    ensures rule { rule_of result ≡ position }
+    ensures local { result.global ≡ false }
+{
+    Arg::new(alloc, "POSITION").help(
+        "A number of items, end, before:KEY or after:KEY; end if it is left out",
+    )
 }
 
 /// Keys, if there are any.

@@ -3,11 +3,11 @@
 ghost use Rattle.std.specs.Prelude.{◌≡◌, IfOk, codes};
 ghost use Rattle.clap.specs.Words.{App, new_app};
 ghost use Rattle.bib_command.specs.Lines.{Reads};
-ghost use Rattle.bib_command.specs.CommandLine.{adds, over_file, over_files, cat_line, check_line, lint_line, show_line, cited_line, entry_line, cite_line, edit_or_print_line, json_line, keys_line, names_line, newkeys_line, edit_line, steps_line, ris_line, import_line, explain_line, bibkeep_top, bibkeep_shows, bibkeep_makes, bibkeep_edits, bibkeep};
+ghost use Rattle.bib_command.specs.CommandLine.{adds, over_file, over_files, cat_line, check_line, lint_line, show_line, cited_line, entry_line, cite_line, edit_or_print_line, json_line, keys_line, names_line, newkeys_line, edit_line, insert_line, steps_line, ris_line, import_line, merge_line, diff_line, explain_line, bibkeep_top, bibkeep_shows, bibkeep_makes, bibkeep_edits, bibkeep};
 
 use crate::arguments::{
     any_file, aux_files, count, edit_words, files_after, files_before, hints, ignore, keys, levels,
-    needed, needed_keys, new_journal, no_journal, print, switch,
+    needed, needed_keys, new_journal, no_journal, position, print, switch,
 };
 use clap::Command;
 use std::alloc::{AllocError, Global};
@@ -21,18 +21,16 @@ pub fn command_line<'a>(alloc: Global) -> Result<Command<'a>, AllocError>
         adds(alloc, adds(alloc, edits(alloc), ris(alloc)), extract(alloc)),
         import(alloc),
     );
-    adds(alloc, shared, explain(alloc))
+    let between = adds(alloc, adds(alloc, shared, merge(alloc)), diff(alloc));
+    adds(alloc, between, explain(alloc))
 }
 
 /// With the commands that change a file, and those over its journal.
 fn edits<'a>(alloc: Global) -> Result<Command<'a>, AllocError>
     ensures { IfOk result (Reads bibkeep_edits) }
 {
-    let turns = adds(
-        alloc,
-        adds(alloc, adds(alloc, makes(alloc), edit(alloc)), undo(alloc)),
-        redo(alloc),
-    );
+    let changes = adds(alloc, adds(alloc, makes(alloc), edit(alloc)), insert(alloc));
+    let turns = adds(alloc, adds(alloc, changes, undo(alloc)), redo(alloc));
     adds(alloc, adds(alloc, turns, log(alloc)), forget(alloc))
 }
 
@@ -77,7 +75,7 @@ fn top<'a>(alloc: Global) -> Result<Command<'a>, AllocError>
         "bibkeep",
         "Edits BibTeX files and leaves every other byte as it was",
         "\
-Exit status: 0 done, 1 refused or a finding of lint, 2 bad usage, 3 read or write error, 4 out of memory.
+Exit status: 0 done, 1 refused, a finding of lint or a difference, 2 bad usage, 3 read or write error, 4 out of memory.
 More: man bibkeep; the guide is GUIDE.md in the folder share/doc/bibkeep that ./install made.
 
 Examples:
@@ -323,9 +321,9 @@ An edit is one of these. As arguments, its words follow F; on standard input the
 by tabs (shown here as spaces):
   set KEY FIELD VALUE                    sets the field, or adds it; a value is {text}, \"text\", 12 or a macro
   drop KEY FIELD                         removes the field
-  add POSITION TYPE KEY FIELD VALUE ..   inserts an entry before item POSITION, counted from 0
+  add POSITION TYPE KEY FIELD VALUE ..   inserts an entry: POSITION is a number of items, end, before:KEY or after:KEY
   remove KEY                             removes the entry
-  move KEY POSITION                      moves the entry before item POSITION of the others
+  move KEY POSITION                      moves the entry there; a number counts the items without the entry
   set-type KEY TYPE                      gives the entry another type, such as book
   rename-key FROM TO                     changes the entry's key and the crossrefs to it
   rename-macro FROM TO                   renames the macro, in its definition and the uses after it
@@ -346,6 +344,29 @@ Examples:
     )?
     .arg(edit_words(alloc))?
     .arg(print(alloc))
+}
+
+fn insert<'a>(alloc: Global) -> Result<Command<'a>, AllocError>
+    ensures { IfOk result (Reads insert_line) }
+{
+    over_file(
+        alloc,
+        "insert",
+        "Puts the BibTeX text on standard input into the file, byte for byte",
+        "\
+The text is what a page or a program gives: entries, and whatever stands around them. It must be valid by itself. At the
+end of a file whose last line is not ended, it begins a new line. One change, which `bibkeep undo F` takes back. It is
+refused if a key of its entries is in the file, or twice in the text, or if it defines a macro that the file defines.
+
+Examples:
+  bibkeep insert refs.bib 0 --print < entry.bib | diff -u refs.bib -
+  bibkeep insert refs.bib after:knuth86 < entry.bib
+  printf '@book{typebook, title = {Type}}\\n' | bibkeep insert refs.bib",
+    )?
+    .arg(position(alloc))?
+    .arg(print(alloc))?
+    .arg(new_journal(alloc))?
+    .arg(no_journal(alloc))
 }
 
 fn undo<'a>(alloc: Global) -> Result<Command<'a>, AllocError>
@@ -475,6 +496,52 @@ Examples:
         "latex",
         "Writes texts so that LaTeX prints them as they are, except url and doi",
     ))
+}
+
+fn merge<'a>(alloc: Global) -> Result<Command<'a>, AllocError>
+    ensures { IfOk result (Reads merge_line) }
+{
+    named(
+        alloc,
+        "merge",
+        "Merges the changes that two sides made to one file, entry by entry",
+        "\
+OURS and THEIRS come from BASE. Each entry, macro, preamble, comment and text is taken from the side that changed it; what
+one side removed goes if the other left it. The merged file takes the place of OURS. If both sides changed an entry or a
+macro, and say different things, both versions are written between the lines `<<<<<<< ours` and `>>>>>>> theirs`; each such
+conflict is printed, and the status is 1. No journal is read or written.
+
+git merges so after `git config merge.bibkeep.driver 'bibkeep merge %O %A %B'` and a line `*.bib merge=bibkeep` in the file
+.gitattributes.
+
+Examples:
+  bibkeep merge base.bib refs.bib theirs.bib --print | diff -u refs.bib -
+  bibkeep merge base.bib refs.bib theirs.bib",
+    )
+    .arg(needed(alloc, "BASE", "The BibTeX file that both sides come from"))?
+    .arg(needed(alloc, "OURS", "Our file, which the merged file replaces"))?
+    .arg(needed(alloc, "THEIRS", "Their file"))?
+    .arg(print(alloc))
+}
+
+fn diff<'a>(alloc: Global) -> Result<Command<'a>, AllocError>
+    ensures { IfOk result (Reads diff_line) }
+{
+    named(
+        alloc,
+        "diff",
+        "Prints the edits that make the entries of one file those of another",
+        "\
+Each line is an edit as `edit` reads it. If OLD gets these edits, its entries are those of NEW, in the same order: the same
+types, the same keys, and the same text in each field. White space, delimiters, macros, comments and the order of fields do
+not count. The status is 1 if there is a difference, and 0 if there is none.
+
+Examples:
+  bibkeep diff old.bib refs.bib
+  bibkeep diff old.bib refs.bib | bibkeep edit old.bib   # old.bib gets the entries of refs.bib",
+    )
+    .arg(needed(alloc, "OLD", "The BibTeX file that would be edited"))?
+    .arg(needed(alloc, "NEW", "The BibTeX file whose entries it would have"))
 }
 
 fn explain<'a>(alloc: Global) -> Result<Command<'a>, AllocError>

@@ -109,9 +109,15 @@ fn words_in(alloc: Global, matches: &ArgMatches<'_>) -> Result<Seq<Text>, AllocE
 {
     let mut words = Vec::new(alloc);
     add_values(alloc, &mut words, matches, "F")?;
+    add_values(alloc, &mut words, matches, "BASE")?;
+    add_values(alloc, &mut words, matches, "OURS")?;
+    add_values(alloc, &mut words, matches, "THEIRS")?;
+    add_values(alloc, &mut words, matches, "OLD")?;
+    add_values(alloc, &mut words, matches, "NEW")?;
     add_values(alloc, &mut words, matches, "KEY")?;
     add_values(alloc, &mut words, matches, "TEMPLATE")?;
     add_values(alloc, &mut words, matches, "WORD")?;
+    add_values(alloc, &mut words, matches, "POSITION")?;
     add_values(alloc, &mut words, matches, "FAULT")?;
     add_values(alloc, &mut words, matches, "CODE")?;
     Ok(Seq::from_vec(words))

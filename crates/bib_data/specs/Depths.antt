@@ -13,4 +13,5 @@ HasDepth other = Unit {0}
 -- if the request is an edit that makes keys, its depth is 1 to 8
 abbrev pub AsksWithDepth : Request → Type 0
 AsksWithDepth (request.Edit edit) = HasDepth edit
+AsksWithDepth (request.Place position edit) = HasDepth edit
 AsksWithDepth other = Unit {0}

@@ -2,15 +2,15 @@
 use Rattle.bib_edit.proofs.Words.{◌≡◌, ℕ, zero, suc, Bool, false, List, [], ◌∷◌, ◌++◌, All, refl, sym, subst, cond-true, cond-false, false≢true, All-cons, All-head, All-tail, Text, IsCleanTrail, Tree, is_comment, Item, Reading, Reads, without_first, HasCleanTexts, IsFirstAt, trail_at, text_before}
 use Rattle.bib_edit.proofs.Words.{is_after_comment, JoinsCleanly}
 
-abbrev AreClean : List Item → Type 0
+abbrev pub AreClean : List Item → Type 0
 AreClean items = All (λ item. IsCleanTrail (is_comment item.tree) item.trail) items
 
 -- the front stands after a comment, or does not
-abbrev after : Bool → List Item → ℕ → Bool
+abbrev pub after : Bool → List Item → ℕ → Bool
 after c items zero = c
 after c items (suc n) = is_after_comment items (suc n)
 
-abbrev CleanAfter : Bool → Reading → Type 0
+abbrev pub CleanAfter : Bool → Reading → Type 0
 CleanAfter c db = IsCleanTrail c db.front × AreClean db.items
 
 module _ (test : Tree → Bool) where

@@ -65,3 +65,12 @@ pub mod RenamedMacro
 pub mod KeptTrails
 pub mod InlinedMacro
 pub mod IntroducedMacro
+-- ---- a text that is put in
+pub mod AnyWalks
+pub mod NextKeys
+pub mod LineEnds
+pub mod InsertedTexts
+pub mod Inserted
+-- ---- positions
+pub mod EntryPlaces
+pub mod EntryNeighbours

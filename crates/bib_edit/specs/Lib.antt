@@ -14,3 +14,5 @@ pub mod NewKeys
 pub mod Replacing
 pub mod Definitions
 pub mod Laws
+pub mod Insertions
+pub mod Positions

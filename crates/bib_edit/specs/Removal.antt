@@ -33,9 +33,13 @@ abbrev pub is_after_comment : List Item → ℕ → Bool
 is_after_comment items zero = false
 is_after_comment items (suc n) = option_map_or (λ item. is_comment item.tree) (slice_get items n) false
 
+-- the text before item n, with these bytes after it, is clean where it stands
+abbrev pub ContinuesCleanly : Reading → ℕ → Text → Type 0
+ContinuesCleanly db n more = IsCleanTrail (is_after_comment db.items n) (text_before db.front db.items n ++ more)
+
 -- the text before item n, joined with that after it, is clean where it then stands
 abbrev pub JoinsCleanly : Reading → ℕ → Type 0
-JoinsCleanly db n = IsCleanTrail (is_after_comment db.items n) (text_before db.front db.items n ++ trail_at db.items n)
+JoinsCleanly db n = ContinuesCleanly db n (trail_at db.items n)
 
 -- the body of item n goes
 abbrev pub removal_of : Reading → ℕ → Piece

@@ -6,11 +6,13 @@ mod add_entry;
 mod add_many;
 mod adding;
 mod address;
+mod clashes;
 mod dangling;
 mod defining;
 mod drop_field;
 mod fault;
 mod inline_macro;
+mod insertion;
 mod introduce_macro;
 mod laws;
 mod limits;
@@ -22,6 +24,7 @@ mod new_keys;
 mod new_text;
 mod pieces;
 mod planning;
+mod positions;
 mod referring;
 mod regenerate_keys;
 mod rekeying;
@@ -35,8 +38,12 @@ mod taking_out;
 mod unused_keys;
 mod values;
 
-pub use bib_data::{Edit, NewEntry};
+pub use bib_data::{Edit, NewEntry, Position};
 pub use fault::EditFault;
-pub use laws::edits_are_asked_for;
+pub use insertion::plan_insertion;
+pub use laws::{
+    a_moved_entry_stands_beside_the_other, a_planned_insertion_leads_to_a_file, edits_are_asked_for,
+};
 pub use planning::plan;
+pub use positions::{place_of, plan_at};
 pub use unused_keys::{free_key, free_keys};

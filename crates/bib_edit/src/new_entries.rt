@@ -93,7 +93,7 @@ fn has_same_key(alloc: Global, entries: &[NewEntry]) -> Result<bool, AllocError>
 
 /// Whether an entry of the file has this key, folded. A dangling crossref may name the key: the new entry becomes its
 /// target.
-fn is_held<L: ItemList>(db: &Database<L>, key: &[u8]) -> bool
+pub(crate) fn is_held<L: ItemList>(db: &Database<L>, key: &[u8]) -> bool
     ensures { OfReading db.now (λ r. result ≡ nat_lt 0 (holders key.now r)) }
 {
     db.holders(key) > 0

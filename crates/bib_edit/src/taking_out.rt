@@ -4,8 +4,8 @@ ghost use Rattle.std.specs.Prelude.{◌≡◌, ◌↔◌, IsTrue, IfOk, IfErr};
 ghost use Rattle.bib_spec.specs.Tree.{is_comment};
 ghost use Rattle.bib_spec.specs.Reading.{Item};
 ghost use Rattle.bib_scan.specs.View.{view_of};
-ghost use Rattle.bib_store.specs.Readings.{OfReading, IsItemNumber};
-ghost use Rattle.bib_edit.specs.Removal.{body_at, is_after_comment, text_before, JoinsCleanly, removal_of};
+ghost use Rattle.bib_store.specs.Readings.{OfReading, IsItemNumber, IsItemGap};
+ghost use Rattle.bib_edit.specs.Removal.{body_at, is_after_comment, text_before, ContinuesCleanly, JoinsCleanly, removal_of};
 ghost use Rattle.bib_edit.specs.declared.fault.EditFault.TheVariants.{Memory};
 
 use crate::fault::EditFault;
@@ -23,9 +23,9 @@ fn is_comment(view: &ItemView<'_>) -> bool
     }
 }
 
-/// Whether the text before item `n` comes after a comment, and that text.
+/// Whether the text before item `n`, or at the end of the file, comes after a comment, and that text.
 fn text_before<'a, L: ItemList>(db: &'a Database<L>, n: usize) -> (bool, &'a [u8])
-    requires { IsItemNumber db.now n }
+    requires { IsItemGap db.now n }
     ensures { OfReading db.now (λ r. (result.0 ≡ is_after_comment r.items n) × (result.1.now ≡ text_before r.front r.items n)) }
 {
     if n == 0 {
@@ -33,6 +33,23 @@ fn text_before<'a, L: ItemList>(db: &'a Database<L>, n: usize) -> (bool, &'a [u8
     }
     let before = db.item(n - 1);
     (is_comment(&before), before.trail())
+}
+
+/// Whether these bytes, joined to the text before item `n` or at the end of the file, begin no item there.
+pub(crate) fn continues_cleanly<L: ItemList>(
+    alloc: Global,
+    db: &Database<L>,
+    n: usize,
+    more: &[u8],
+) -> Result<bool, EditFault>
+    requires { IsItemGap db.now n }
+    ensures clean { IfOk result (λ clean. OfReading db.now (λ r. IsTrue clean ↔ ContinuesCleanly r n more.now)) }
+    ensures only { IfErr result (λ fault. fault ≡ Memory) }
+{
+    let (after_comment, before) = text_before(db, n);
+    let mut joined = Vec::from_slice(alloc, before)?;
+    joined.extend_from_slice(more)?;
+    Ok(is_clean_trail(after_comment, joined.as_slice()))
 }
 
 /// Whether the trail of item `n`, joined to the text before the item, begins no item there.
@@ -45,10 +62,7 @@ pub(crate) fn joins_cleanly<L: ItemList>(
     ensures clean { IfOk result (λ clean. OfReading db.now (λ r. IsTrue clean ↔ JoinsCleanly r n)) }
     ensures only { IfErr result (λ fault. fault ≡ Memory) }
 {
-    let (after_comment, before) = text_before(db, n);
-    let mut joined = Vec::from_slice(alloc, before)?;
-    joined.extend_from_slice(db.item(n).trail())?;
-    Ok(is_clean_trail(after_comment, joined.as_slice()))
+    continues_cleanly(alloc, db, n, db.item(n).trail())
 }
 
 /// The body of item `n`: its own bytes, without its trail.

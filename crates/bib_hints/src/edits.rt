@@ -3,6 +3,9 @@
 use crate::items::{Item, definitions, field_of, holders, items_of, line_of};
 use crate::lines::Lines;
 use crate::parts::Part;
+use crate::positions::{
+    hint_insert_position, hint_no_entry, hint_number, hint_positions, hint_twice, key_in,
+};
 use crate::verbs::{VERBS, form_of, is_month};
 use bib_scan::{ItemView, Kind, is_balanced, is_name, is_type, read_value, same_folded};
 use bib_text::trimmed;
@@ -82,7 +85,21 @@ pub fn hint_form(lines: &mut Lines, verb: &[u8]) -> Result<(), AllocError> {
     }
     let parts = [Part::Name(form)];
     lines.say(b"its words are: %", &parts)?;
+    if verb == b"add".as_slice() || verb == b"move".as_slice() {
+        hint_positions(lines)?;
+    }
     lines.say(b"bibkeep help edit says more", &[])
+}
+
+/// The key of the entry beside which the edit puts something, if its position names one.
+fn key_beside<'a>(edit: &Edit<'a>) -> Option<&'a [u8]> {
+    if edit.is_named(b"move") {
+        return key_in(edit.word(2));
+    }
+    if edit.is_named(b"add") || edit.is_named(b"insert") {
+        return key_in(edit.word(1));
+    }
+    None
 }
 
 /// The key that the edit gives to an entry.
@@ -174,6 +191,9 @@ fn hint_bad_value(lines: &mut Lines, value: &[u8]) -> Result<(), AllocError> {
 
 fn hint_position(lines: &mut Lines, edit: &Edit<'_>) -> Result<(), AllocError> {
     let count = items_of(lines.alloc(), edit.file)?.len();
+    if edit.is_named(b"insert") {
+        return hint_insert_position(lines, edit.name, edit.word(1), count);
+    }
     if edit.is_named(b"move") {
         let parts = [Part::Name(edit.name), Part::Count(count.saturating_sub(1))];
         return lines.say(
@@ -181,11 +201,7 @@ fn hint_position(lines: &mut Lines, edit: &Edit<'_>) -> Result<(), AllocError> {
             &parts,
         );
     }
-    let parts = [Part::Name(edit.name), Part::Count(count)];
-    lines.say(
-        b"% has % items, counted from 0; that number is the end of the file",
-        &parts,
-    )
+    hint_number(lines, edit.name, count)
 }
 
 /// Whether the second word is the name of a macro.
@@ -205,18 +221,25 @@ fn hint_missing(lines: &mut Lines, edit: &Edit<'_>) -> Result<(), AllocError> {
         return hint_missing_macro(lines, edit);
     }
     let items = items_of(lines.alloc(), edit.file)?;
+    if let Some(key) = key_beside(edit) {
+        if holders(lines.alloc(), items.as_slice(), key)?.is_empty() {
+            return hint_no_entry(lines, edit.name, key);
+        }
+    }
     let found = holders(lines.alloc(), items.as_slice(), edit.word(1))?;
+    if found.is_empty() {
+        return hint_no_entry(lines, edit.name, edit.word(1));
+    }
+    hint_missing_field(lines, edit)
+}
+
+fn hint_missing_field(lines: &mut Lines, edit: &Edit<'_>) -> Result<(), AllocError> {
+    let parts = [Part::Name(edit.word(1)), Part::Name(edit.word(2))];
+    lines.say(b"the entry % has no field % of its own", &parts)?;
     let typed = [
         Part::Typed(edit.name, b"F"),
         Part::Typed(edit.word(1), b"KEY"),
     ];
-    if found.is_empty() {
-        let parts = [Part::Name(edit.name), Part::Name(edit.word(1))];
-        lines.say(b"no entry of % has the key %", &parts)?;
-        return lines.say(b"bibkeep cite % '*' lists the keys", &typed);
-    }
-    let parts = [Part::Name(edit.word(1)), Part::Name(edit.word(2))];
-    lines.say(b"the entry % has no field % of its own", &parts)?;
     lines.say(
         b"bibkeep show % % prints its fields; change an inherited one in the parent",
         &typed,
@@ -237,13 +260,13 @@ fn hint_ambiguous(lines: &mut Lines, edit: &Edit<'_>) -> Result<(), AllocError> 
     let alloc = lines.alloc();
     let items = items_of(alloc, edit.file)?;
     if is_about_macro(edit) {
-        let found = definitions(alloc, items.as_slice(), edit.word(1))?;
-        return hint_twice(
-            lines,
-            edit,
-            found.as_slice(),
-            b"the macro % is defined % times: lines % and %",
-        );
+        return hint_macro_twice(lines, edit, items.as_slice());
+    }
+    if let Some(key) = key_beside(edit) {
+        let found = holders(alloc, items.as_slice(), key)?;
+        if found.len() > 1 {
+            return hint_key_twice(lines, edit, key, found.as_slice());
+        }
     }
     if edit.is_named(b"add") {
         return lines.say(b"the new entry has a field twice", &[]);
@@ -251,32 +274,32 @@ fn hint_ambiguous(lines: &mut Lines, edit: &Edit<'_>) -> Result<(), AllocError> 
     let found = holders(alloc, items.as_slice(), edit.word(1))?;
     match found.as_slice() {
         [only] => hint_field_twice(lines, edit, only),
-        many => hint_twice(
-            lines,
-            edit,
-            many,
-            b"the key % is that of % entries: lines % and %",
-        ),
+        many => hint_key_twice(lines, edit, edit.word(1), many),
     }
 }
 
-/// Where the first two of several items are.
-fn hint_twice(
+/// Where a macro is defined more than once.
+fn hint_macro_twice(
     lines: &mut Lines,
     edit: &Edit<'_>,
     items: &[Item<'_>],
-    words: &[u8],
 ) -> Result<(), AllocError> {
-    let [first, second, ..] = items else {
-        return Ok(());
-    };
-    let parts = [
-        Part::Name(edit.word(1)),
-        Part::Count(items.len()),
-        Part::Count(line_of(edit.file, first.start)),
-        Part::Count(line_of(edit.file, second.start)),
-    ];
-    lines.say(words, &parts)?;
+    let name = edit.word(1);
+    let found = definitions(lines.alloc(), items, name)?;
+    let words = b"the macro % is defined % times: lines % and %";
+    hint_twice(lines, words, name, edit.file, found.as_slice())?;
+    hint_by_hand(lines, edit)
+}
+
+/// Where the entries are that have the same key.
+fn hint_key_twice(
+    lines: &mut Lines,
+    edit: &Edit<'_>,
+    key: &[u8],
+    items: &[Item<'_>],
+) -> Result<(), AllocError> {
+    let words = b"the key % is that of % entries: lines % and %";
+    hint_twice(lines, words, key, edit.file, items)?;
     hint_by_hand(lines, edit)
 }
 

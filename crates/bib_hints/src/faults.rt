@@ -14,7 +14,7 @@ use std::io::ErrorKind;
 /// The hints about a fault that is none of an edit and none of an input.
 pub fn hint_fault(lines: &mut Lines, asked: &Asked<'_>, said: Said) -> Result<(), AllocError> {
     match (said.fault, said.place) {
-        (1..=8, Some(place)) => hint_place(lines, asked, place),
+        (1..=8, Some(place)) => hint_place(lines, asked.name(), asked.file, place),
         (9, _) => lines.say(
             b"a file, a script or a RIS text has at most 16777216 bytes",
             &[],
@@ -48,20 +48,25 @@ fn hint_forget(lines: &mut Lines, asked: &Asked<'_>) -> Result<(), AllocError> {
     )
 }
 
-/// Where a file goes wrong.
-fn hint_place(lines: &mut Lines, asked: &Asked<'_>, place: usize) -> Result<(), AllocError> {
-    let line = line_of(asked.file, place);
+/// Where a text with this name goes wrong.
+pub fn hint_place(
+    lines: &mut Lines,
+    name: &[u8],
+    text: &[u8],
+    place: usize,
+) -> Result<(), AllocError> {
+    let line = line_of(text, place);
     let at = [
-        Part::Name(asked.name()),
+        Part::Name(name),
         Part::Count(line),
-        Part::Count(column_of(asked.file, place)),
+        Part::Count(column_of(text, place)),
     ];
     lines.say(b"%, line %, column %", &at)?;
-    let text = line_in(asked.file, line).trim_ascii();
-    if text.is_empty() {
+    let words = line_in(text, line).trim_ascii();
+    if words.is_empty() {
         return Ok(());
     }
-    let parts = [Part::Name(text)];
+    let parts = [Part::Name(words)];
     lines.say(b"the line: %", &parts)
 }
 

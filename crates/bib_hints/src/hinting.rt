@@ -7,6 +7,7 @@ use crate::asking::{Asked, Ended, Trouble};
 use crate::edits::{Edit, hint_edit};
 use crate::faults::{hint_fault, hint_storing, hint_trouble};
 use crate::inputs::{hint_import, hint_script};
+use crate::insertions::hint_insert;
 use crate::keys::hint_unknown_keys;
 use crate::lines::Lines;
 use crate::notes::note;
@@ -77,6 +78,8 @@ pub fn invitation(alloc: Global, command: &Command) -> Result<Text, AllocError>
         )?;
     } else if command.is_named(b"import") {
         lines.say(b"type or paste RIS records, and end with Ctrl-D", &[])?;
+    } else if command.is_named(b"insert") {
+        lines.say(b"type or paste BibTeX entries, and end with Ctrl-D", &[])?;
     } else {
         lines.say(b"type or paste a BibTeX file, and end with Ctrl-D", &[])?;
     }
@@ -107,6 +110,9 @@ fn hint_said(
     let command = asked.command;
     if said.fault == 11 {
         return hint_unknown_keys(lines, asked);
+    }
+    if command.is_named(b"insert") {
+        return hint_insert(lines, asked, said);
     }
     if said.fault < 31 || (51..=54).contains(&said.fault) {
         return hint_fault(lines, asked, said);

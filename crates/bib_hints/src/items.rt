@@ -67,6 +67,29 @@ pub fn first_holders(alloc: Global, file: &[u8]) -> Result<FoldedMap<usize>, All
     Ok(starts)
 }
 
+/// Where the first definition of each macro begins.
+pub fn first_definitions(alloc: Global, file: &[u8]) -> Result<FoldedMap<usize>, AllocError> {
+    let mut starts = FoldedMap::new(alloc);
+    let items = items_of(alloc, file)?;
+    'items: for item in items.as_slice() {
+        if let Some(name) = defined_by(item) {
+            note_first(&mut starts, name, item.start)?;
+        }
+    }
+    Ok(starts)
+}
+
+/// The macro that the item defines, if it is a definition.
+pub fn defined_by<'a>(item: &Item<'a>) -> Option<&'a [u8]> {
+    if item.kind != Kind::Macro {
+        return None;
+    }
+    match ItemView::of(item.body, b"").fields().next() {
+        Some(field) => Some(field.name),
+        None => None,
+    }
+}
+
 /// Gives a name its number, if it has none.
 pub fn note_first(
     numbers: &mut FoldedMap<usize>,

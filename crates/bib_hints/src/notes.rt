@@ -6,17 +6,20 @@ use crate::lines::Lines;
 use crate::parts::Part;
 use crate::script::words_in;
 use crate::verbs::is_month;
-use bib_scan::is_name;
+use bib_scan::{Kind, is_name};
 use bib_text::trimmed;
-use std::alloc::AllocError;
+use std::alloc::{AllocError, Global};
 
 /// So many notes are made on one run.
 const NOTES: usize = 3;
 
-/// The notes on an edit or an import that did something else than it seems to do. `present` is the file after it.
+/// The notes on an edit, an import or an insertion that did something else than it seems to do. `present` is the file after it.
 pub fn note(lines: &mut Lines, asked: &Asked<'_>, present: &[u8]) -> Result<(), AllocError> {
     if asked.command.is_named(b"import") {
         return note_import(lines, asked);
+    }
+    if asked.command.is_named(b"insert") {
+        return note_insert(lines, asked, present);
     }
     if !asked.command.is_named(b"edit") {
         return Ok(());
@@ -48,6 +51,49 @@ fn note_import(lines: &mut Lines, asked: &Asked<'_>) -> Result<(), AllocError> {
         return lines.say(b"this looks like BibTeX; import reads RIS", &[]);
     }
     lines.say(b"a record begins with a line such as: TY  - JOUR", &[])
+}
+
+fn note_insert(lines: &mut Lines, asked: &Asked<'_>, present: &[u8]) -> Result<(), AllocError> {
+    let input = trimmed(asked.input);
+    if input.is_empty() {
+        return lines.say(b"the input is empty", &[]);
+    }
+    if has_entry(lines.alloc(), asked.input)? {
+        return note_open_line(lines, asked, present);
+    }
+    lines.say(b"no entry in the input", &[])?;
+    if without_mark(input).starts_with(b"TY  -") {
+        let parts = [Part::Typed(asked.name(), b"F")];
+        return lines.say(
+            b"this looks like RIS; type: bibkeep import % < FILE",
+            &parts,
+        );
+    }
+    Ok(())
+}
+
+/// A note on an input whose last line is not ended, if the new file does not end with it.
+fn note_open_line(lines: &mut Lines, asked: &Asked<'_>, present: &[u8]) -> Result<(), AllocError> {
+    if asked.input.ends_with(b"\n") || asked.command.print || present.ends_with(asked.input) {
+        return Ok(());
+    }
+    lines.say(
+        b"the last line of the input is not ended: what comes next in the file begins in it",
+        &[],
+    )?;
+    let parts = [Part::Typed(asked.name(), b"F")];
+    lines.say(b"bibkeep undo % takes the text out again", &parts)
+}
+
+/// Whether the text has an entry.
+fn has_entry(alloc: Global, text: &[u8]) -> Result<bool, AllocError> {
+    let items = items_of(alloc, text)?;
+    'items: for item in items.as_slice() {
+        if item.kind == Kind::Entry {
+            return Ok(true);
+        }
+    }
+    Ok(false)
 }
 
 /// The line without a byte order mark.

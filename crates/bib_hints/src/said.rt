@@ -2,12 +2,14 @@
 
 use std::str;
 
-/// The numbers in a message: the line of a script, the fault, and the place. Each is 0 or none if the message has none.
+/// The numbers in a message: the line of a script, the fault, and the place. Each is 0 or none if the message has none. And
+/// whether the place is one of standard input.
 #[derive(Clone, Copy, Debug)]
 pub struct Said {
     pub line: usize,
     pub fault: usize,
     pub place: Option<usize>,
+    pub is_of_input: bool,
 }
 
 /// What the message says.
@@ -16,6 +18,7 @@ pub fn said_in(message: &[u8]) -> Said {
         line: 0,
         fault: 0,
         place: None,
+        is_of_input: message.trim_ascii().ends_with(b" in standard input"),
     };
     let mut last = b"".as_slice();
     'words: for word in message.split(|byte| matches!(*byte, b' ' | b':' | b'\n')) {

@@ -2,6 +2,7 @@
 
 use crate::lines::Lines;
 use crate::parts::Part;
+use crate::positions::hint_positions;
 use crate::verbs::is_verb;
 use std::alloc::AllocError;
 
@@ -31,6 +32,9 @@ pub fn hint_usage(lines: &mut Lines, words: &[String]) -> Result<(), AllocError>
     }
     if command == b"edit".as_slice() {
         return hint_edit_usage(lines, words);
+    }
+    if command == b"insert".as_slice() {
+        return hint_positions(lines);
     }
     if takes_keys(command) && argument_count(words) == 1 {
         return lines.say(b"a KEY is one of the file, or '*' for every entry", &[]);

@@ -29,6 +29,8 @@ still_open requests b = leaves_open b requests
 pub open_after : (requests : List Request) (old new : SessionState) → DoesAll requests old new → is_open new.current ≡ leaves_open (is_open old.current) requests
 open_after [] old new did = ap (λ (s : SessionState). is_open s.current) did
 open_after (request.Edit edit ∷ requests) old new did = open_after requests did.0 new did.2 ∙ ap (still_open requests) (ap is_open did.1.current ∙ open_after_edit old.current)
+open_after (request.Place position edit ∷ requests) old new did = open_after requests did.0 new did.2 ∙ ap (still_open requests) (ap is_open did.1.made.current ∙ open_after_edit old.current)
+open_after (request.Insert position text ∷ requests) old new did = open_after requests did.0 new did.2 ∙ ap (still_open requests) (ap is_open did.1.still ∙ sym (ap is_open did.1.closed))
 open_after (request.Begin label ∷ requests) old new did = open_after requests did.0 new did.2 ∙ ap (still_open requests) (ap is_open did.1.current)
 open_after (request.End ∷ requests) old new did = open_after requests did.0 new did.2 ∙ ap (still_open requests) (ap is_open did.1.closed)
 open_after (request.Undo ∷ requests) old new did = open_after requests did.0 new did.2 ∙ ap (still_open requests) (ap is_open did.1.still ∙ sym (ap is_open did.1.closed))

@@ -131,6 +131,8 @@ all-keep [] old new is all db reads db' reads' =
     subst (KeepsTexts db) (one_reading name_limit old.steps.present db db' reads (subst (λ (s : SessionState). Reads s.steps.present db') all reads')) (texts-stay db)
 all-keep (request.Undo ∷ requests) old new is all db reads db' reads' = absurd (false≢true is)
 all-keep (request.Redo ∷ requests) old new is all db reads db' reads' = absurd (false≢true is)
+all-keep (request.Place position edit ∷ requests) old new is all db reads db' reads' = absurd (false≢true is)
+all-keep (request.Insert position text ∷ requests) old new is all db reads db' reads' = absurd (false≢true is)
 all-keep (request.Begin label ∷ requests) old new is all db reads db' reads' =
     all-keep requests all.0 new (and_parts true (list_all is_renaming requests) is).1 all.2 db (subst (λ (k : KeptSteps). Reads k.present db) (sym all.1.steps) reads) db' reads'
 all-keep (request.End ∷ requests) old new is all db reads db' reads' =

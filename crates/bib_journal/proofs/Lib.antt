@@ -18,4 +18,5 @@ pub mod OtherEntries
 pub mod UntouchedItems
 pub mod SavedLoads
 pub mod EndedSessions
+pub mod OpenFaults
 pub mod OneResult

@@ -16,6 +16,19 @@ use Rattle.history_spec.proofs.StepLemmas.{adding-edits, joining-amends}
 use Rattle.edit_spec.proofs.EditFiles.{pieces-lead}
 use Rattle.edit_spec.proofs.EditedReads.{applied-opens}
 use Rattle.history_spec.specs.Composing.{AreEnds}
+use Rattle.bib_data.specs.declared.position.Position.{Position}
+use Rattle.bib_edit.specs.Insertions.{IsAllowedInsertion}
+use Rattle.bib_edit.proofs.Inserted.{planned-lead, planned-open}
+use Rattle.bib_data.specs.declared.position.Position.TheVariants.{Number, End, Before, After}
+use Rattle.bib_edit.specs.declared.fault.EditFault.{EditFault}
+use Rattle.bib_edit.specs.declared.fault.EditFault.TheVariants as edit_fault
+use Rattle.bib_edit.specs.Addressing.{IsHolderFault}
+use Rattle.bib_edit.specs.Planning.{IsRefusal}
+use Rattle.bib_edit.specs.Positions.{IsPlaceOf, IsPositionRefusal, ArePiecesAt, IsAllowedAt, IsRefusalAt, edit_at}
+use Rattle.bib_journal.specs.Faults.{refused}
+use Rattle.bib_journal.specs.declared.fault.SessionFault.{SessionFault}
+use Rattle.bib_journal.specs.declared.fault.SessionFault.TheVariants.{Refused, JournalFull, Memory}
+use Rattle.bib_journal.specs.Session.{MakesInsertion, RefusesPieces, RefusesInsertion, RefusesEdit, MakesEditAt, RefusesEditAt, PlansInsertion, Inserts}
 use Rattle.bib_journal.specs.Kept.{KnowsEnds}
 
 -- ---- the two stacks
@@ -158,6 +171,127 @@ made_edit edit pieces old new w o allowed planned room makes current =
       file = λ db reads e asks. subst (λ (t : Text). MovesTo old.current t (history_of old.steps) (history_of new.steps)) (planned_file old.steps.present db e pieces reads (planned db reads e asks)) both.1;
       current = current;
     }
+
+-- ---- edits at a position
+
+-- the place of an edit at a position: its pieces are those of the edit there, and nothing refuses it
+pub record IsPlaced (file : Text) (position : Position) (edit : Edit) (pieces : List Piece) : Type 0 where
+  pub place : ℕ
+  pub said : IsPlaceOf file position edit place
+  pub pieces_are : ArePiecesOf file (edit_at place edit) pieces
+  pub allowed : IsAllowedEdit file (edit_at place edit)
+
+pub placed : (file : Text) (position : Position) (edit : Edit) (pieces : List Piece) → IsOpenable file → ArePiecesAt file position edit pieces → IsAllowedAt file position edit
+    → IsPlaced file position edit pieces
+placed file position edit pieces opens are allowed = record {
+  place = are.0;
+  said = are.1;
+  pieces_are = are.2;
+  allowed = subst (λ (n : ℕ). IsAllowedEdit file (edit_at n edit)) ((allowed.1 opens.0 opens.1.reads).1 ∙ sym (are.1 opens.0 opens.1.reads).1) allowed.2;
+}
+
+pub placed_leads : (file : Text) (position : Position) (edit : Edit) (pieces : List Piece) → IsOpenable file → IsPlaced file position edit pieces → IsAllowed pieces file
+placed_leads file position edit pieces opens is = planned_leads file (edit_at is.place edit) pieces opens is.allowed is.pieces_are
+
+-- the pieces of an edit at a position that nothing refuses, made so, make the edit there
+pub made_edit_at : (position : Position) (edit : Edit) (pieces : List Piece) (old new : SessionState) → IsSound old.steps → IsOpenIn old.steps old.current
+    → IsPlaced old.steps.present position edit pieces → (LacksRoom old.current pieces old.steps → ⊥) → MakesSteps old.current pieces old.steps new.steps → new.current ≡ after_edit old.current
+    → MakesEditAt position edit old new
+made_edit_at position edit pieces old new w o is room makes current = record {
+  place = is.place;
+  said = is.said;
+  made = made_edit (edit_at is.place edit) pieces old new w o is.allowed is.pieces_are room makes current;
+}
+
+-- a refused edit, as a session tells it
+refused_edit : (fault : EditFault) (edit : Edit) (state : SessionState) → IsRefusal state.steps.present edit fault → RefusesEdit (refused fault) edit state
+refused_edit edit_fault.Memory edit state why = tt
+refused_edit edit_fault.BadKey edit state why = ((λ e. absurd (cc (e))), why)
+refused_edit edit_fault.BadName edit state why = ((λ e. absurd (cc (e))), why)
+refused_edit edit_fault.BadValue edit state why = ((λ e. absurd (cc (e))), why)
+refused_edit edit_fault.BadPosition edit state why = ((λ e. absurd (cc (e))), why)
+refused_edit edit_fault.NotFound edit state why = ((λ e. absurd (cc (e))), why)
+refused_edit edit_fault.Ambiguous edit state why = ((λ e. absurd (cc (e))), why)
+refused_edit edit_fault.KeyInUse edit state why = ((λ e. absurd (cc (e))), why)
+refused_edit edit_fault.NameInUse edit state why = ((λ e. absurd (cc (e))), why)
+refused_edit edit_fault.Referred edit state why = ((λ e. absurd (cc (e))), why)
+refused_edit edit_fault.WouldMerge edit state why = ((λ e. absurd (cc (e))), why)
+refused_edit edit_fault.FileTooLong edit state why = ((λ e. absurd (cc (e))), why)
+refused_edit edit_fault.TextTooLong edit state why = ((λ e. absurd (cc (e))), why)
+
+-- a position is refused since no entry has its key, or several do
+pub told_position : (position : Position) (file : Text) (fault : EditFault) → IsPositionRefusal file position fault → refused fault ≡ Refused fault
+told_position (Number n) file fault why = absurd why
+told_position End file fault why = absurd why
+told_position (Before key) file fault (IsHolderFault.none_holds none) = refl
+told_position (Before key) file fault (IsHolderFault.many_hold many) = refl
+told_position (After key) file fault (IsHolderFault.none_holds none) = refl
+told_position (After key) file fault (IsHolderFault.many_hold many) = refl
+
+-- a refused edit at a position, as a session tells it
+pub refused_at : (position : Position) (edit : Edit) (fault : EditFault) (state : SessionState) → IsRefusalAt state.steps.present position edit fault → RefusesEditAt (refused fault) position edit state
+refused_at position edit fault state (inl why) = inl (record { own = fault; told = told_position position state.steps.present fault why; refused = why })
+refused_at position edit fault state (inr there) = inr (record { place = there.0; said = there.1; refused = refused_edit fault (edit_at there.0 edit) state there.2 })
+
+-- ---- insertions
+
+-- the pieces of an insertion that nothing refuses lead from the file to another
+pub insertion_leads : (position : Position) (file text : Text) (pieces : List Piece) (plan : PlansInsertion position file text pieces)
+    → IsAllowedInsertion file text plan.place → IsAllowed pieces file
+insertion_leads position file text pieces plan allowed = record {
+  fit = planned-lead.fit file text plan.place pieces plan.planned;
+  made = planned-open.opens file text plan.place pieces plan.planned allowed;
+}
+
+-- the pieces of a planned insertion, made a step, put the text in
+pub made_insertion : (position : Position) (text : Text) (pieces : List Piece) (old new : SessionState) → IsSound old.steps → old.current ≡ NoStep
+    → PlansInsertion position old.steps.present text pieces → MakesInsertion pieces old new → Inserts position text old new
+made_insertion position text pieces old new w none plan made =
+    let file : Text = old.steps.present in
+    let both : IsSound new.steps × MovesTo NoStep (applied pieces file) (history_of old.steps) (history_of new.steps) =
+    steps_move NoStep pieces old.steps new.steps w tt made.leads made.room made.step in
+    record {
+      closed = none;
+      still = made.still;
+      pieces = pieces;
+      plan = plan;
+      allowed = planned-open.allowed file text plan.place pieces plan.planned made.leads.made;
+      room = made.room;
+      step = made.step;
+      file = λ db reads added reads'. subst (λ (t : Text). MovesTo NoStep t (history_of old.steps) (history_of new.steps))
+          (planned-lead.lead file text plan.place pieces plan.planned db reads added reads') both.1;
+    }
+
+-- pieces that are made a step, where none is open
+pub made_pieces : (pieces : List Piece) (old new : SessionState) → old.current ≡ NoStep → IsAllowed pieces old.steps.present → (LacksRoom old.current pieces old.steps → ⊥)
+    → MakesSteps old.current pieces old.steps new.steps → new.current ≡ after_edit old.current → MakesInsertion pieces old new
+made_pieces pieces old new none leads room makes current = record {
+  leads = leads;
+  room = subst (λ (o : OpenStep). LacksRoom o pieces old.steps → ⊥) none room;
+  step = subst (λ (o : OpenStep). MakesSteps o pieces old.steps new.steps) none makes;
+  still = current ∙ ap after_edit none;
+}
+
+-- why pieces are not kept, where no step is open
+pub unkept_pieces : (pieces : List Piece) (state : SessionState) (fault : SessionFault) → state.current ≡ NoStep → (fault ≡ JournalFull) ⊎ (fault ≡ Memory)
+    → (fault ≡ JournalFull → LacksRoom state.current pieces state.steps) → RefusesPieces pieces state fault
+unkept_pieces pieces state fault none (inl e) full =
+    subst (λ (f : SessionFault). RefusesPieces pieces state f) (sym e) (RefusesPieces.overfull (subst (λ (o : OpenStep). LacksRoom o pieces state.steps) none (full e)))
+unkept_pieces pieces state fault none (inr e) full = subst (λ (f : SessionFault). RefusesPieces pieces state f) (sym e) RefusesPieces.no_memory
+
+-- pieces that are refused, of an insertion that is planned
+pub refused_pieces : (position : Position) (text : Text) (pieces : List Piece) (state : SessionState) (fault : SessionFault) → state.current ≡ NoStep
+    → PlansInsertion position state.steps.present text pieces → RefusesPieces pieces state fault → RefusesInsertion position text state fault
+refused_pieces position text pieces state _ none plan (RefusesPieces.overfull full) = RefusesInsertion.full none (record { pieces = pieces; plan = plan; full = full })
+refused_pieces position text pieces state _ none plan (RefusesPieces.unopenable room unopenable) =
+    RefusesInsertion.long none (record {
+      pieces = pieces;
+      plan = plan;
+      room = room;
+      long = planned-open.refused state.steps.present text plan.place pieces plan.planned
+          (λ opens. unopenable (record { fit = planned-lead.fit state.steps.present text plan.place pieces plan.planned; made = opens }));
+    })
+refused_pieces position text pieces state _ none plan RefusesPieces.no_memory = RefusesInsertion.unplanned Memory none tt
 
 -- what follows from three facts, where a call is accepted
 pub where_accepted : {T E P Q R S : Type 0} (r : Result T E) → (P → Q → R → S) → OnOk r P → OnOk r Q → OnOk r R → OnOk r S

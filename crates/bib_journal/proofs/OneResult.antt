@@ -10,7 +10,20 @@ use Rattle.bib_data.specs.declared.request.Request.TheVariants as request
 use Rattle.bib_edit.specs.declared.fault.EditFault.TheVariants as edit_fault
 use Rattle.bib_edit.specs.Faults.{reason_of}
 use Rattle.bib_store.specs.Readings.{OfReading}
+use Rattle.std.proofs.Common.{ap₂}
+use Rattle.bib_spec.specs.Reading.{Reading, Reads}
+use Rattle.edit_spec.specs.Edits.{holders}
+use Rattle.insert_spec.specs.Insertion.{pieces_of, IsFirstRefusedInsertion}
+use Rattle.bib_scan.specs.declared.fault.ReadFault.{ReadFault}
+use Rattle.bib_store.specs.Readings.{IsOpenFault}
+use Rattle.bib_data.specs.declared.position.Position.{Position}
+use Rattle.bib_data.specs.declared.position.Position.TheVariants.{Number, End, Before, After}
+use Rattle.bib_edit.specs.Addressing.{IsHolderFault}
+use Rattle.bib_edit.specs.Positions.{NamesOneEntry, IsPositionPlace, IsPositionRefusal, IsPlaceOf, edit_at}
+use Rattle.bib_edit.specs.Insertions.{IsInsertionRefusal}
+use Rattle.bib_journal.specs.Session.{MakesEditAt, RefusesEdit, RefusesEditThere, RefusesEditAt, PlansInsertion, Inserts, RefusesPlanned, RefusesPlan, LacksRoomFor, MakesLongText, RefusesInsertion}
 use Rattle.bib_journal.specs.OneResult.{one_result}
+use Rattle.bib_journal.proofs.OpenFaults.{SamePlace, open_fault, one_open_fault}
 use Rattle.bib_journal.proofs.SeveralRuns.{does_keeps_good}
 
 -- ---- steps
@@ -40,6 +53,20 @@ one_makes NoStep pieces old a b x y = one_adds (new_step NoStep pieces) old a b 
 one_makes (NewStep label) pieces old a b x y = one_adds (new_step (NewStep label) pieces) old a b x y
 one_makes LastStep pieces old a b x y = one_joins pieces old a b x y
 
+-- ---- insertions that are planned
+
+-- the position says one place
+pub one_place : (position : Position) (file : Text) (n m : ℕ) → IsOpenable file → IsPositionPlace file position n → IsPositionPlace file position m → n ≡ m
+one_place position file n m opens x y = (x opens.0 opens.1.reads).1 ∙ sym (y opens.0 opens.1.reads).1
+
+-- an insertion has one plan
+pub one_plan : (position : Position) (file text : Text) (pieces others : List Piece) → PlansInsertion position file text pieces → PlansInsertion position file text others → pieces ≡ others
+one_plan position file text pieces others x y =
+    let db = x.planned.file_opens in
+    let added = x.planned.text_opens in
+    x.planned.pieces_are db.0 db.1.reads added.0 added.1.reads ∙ ap (λ n. pieces_of n added.0 db.0) (one_place position file x.place y.place db x.said y.said)
+    ∙ sym (y.planned.pieces_are db.0 db.1.reads added.0 added.1.reads)
+
 -- ---- what is done
 
 one_edit : (edit : Edit) (old a b : SessionState) → IsOpenable old.steps.present → MakesEdit edit old a → MakesEdit edit old b → a ≡ b
@@ -49,6 +76,16 @@ one_edit edit old a b opens x y =
     same_state a b
     (one_makes old.current y.pieces old.steps a.steps b.steps (subst (λ (ps : List Piece). MakesSteps old.current ps old.steps a.steps) pieces x.step) y.step)
     (x.current ∙ sym y.current)
+
+one_edit_at : (position : Position) (edit : Edit) (old a b : SessionState) → IsOpenable old.steps.present → MakesEditAt position edit old a → MakesEditAt position edit old b → a ≡ b
+one_edit_at position edit old a b opens x y =
+    let same : x.place ≡ y.place = (x.said opens.0 opens.1.reads).1 ∙ sym (y.said opens.0 opens.1.reads).1 in
+    one_edit (edit_at y.place edit) old a b opens (subst (λ (n : ℕ). MakesEdit (edit_at n edit) old a) same x.made) y.made
+
+one_insertion : (position : Position) (text : Text) (old a b : SessionState) → Inserts position text old a → Inserts position text old b → a ≡ b
+one_insertion position text old a b x y =
+    let pieces : x.pieces ≡ y.pieces = one_plan position old.steps.present text x.pieces y.pieces x.plan y.plan in
+    same_state a b (one_makes NoStep y.pieces old.steps a.steps b.steps (subst (λ (ps : List Piece). MakesSteps NoStep ps old.steps a.steps) pieces x.step) y.step) (x.still ∙ sym y.still)
 
 one_back : (old a b : KeptSteps) (s t : Step) → GoesBack s old a → GoesBack t old b → a ≡ b
 one_back old a b s t x y =
@@ -65,6 +102,8 @@ one_on old a b s t x y =
 
 pub one_does : (request : Request) (old a b : SessionState) → IsOpenable old.steps.present → Does request old a → Does request old b → a ≡ b
 one_does (request.Edit edit) old a b opens x y = one_edit edit old a b opens x y
+one_does (request.Place position edit) old a b opens x y = one_edit_at position edit old a b opens x y
+one_does (request.Insert position text) old a b opens x y = one_insertion position text old a b x y
 one_does (request.Begin label) old a b opens x y = same_state a b (x.steps ∙ sym y.steps) (x.current ∙ sym y.current)
 one_does request.End old a b opens x y = same_state a b (x.steps ∙ sym y.steps) (x.closed ∙ sym y.closed)
 one_does request.Undo old a b opens x y = same_state a b (one_back old.steps a.steps b.steps x.step y.step x.carried y.carried) (x.still ∙ sym y.still)
@@ -211,12 +250,248 @@ not_full edit fault old new opens e why makes =
     let one : (e : edits.Edit) × AsksFor edit e = asked_for edit in
     makes.room (subst (λ (ps : List Piece). LacksRoom old.current ps old.steps) (sym (makes.planned opens.0 opens.1.reads one.0 one.1)) (full.1 opens.0 opens.1.reads one.0 one.1))
 
--- a request is not both refused and done
-pub not_both : (request : Request) (fault : SessionFault) (old new : SessionState) → IsOpenable old.steps.present → fault ≢ Memory → Refuses fault request old → Does request old new → ⊥
-not_both (request.Edit edit) fault old new opens told why does = ⊎_elim
+-- two ways that exclude one another
+abbrev one_of : {A B A' B' C : Type 0} → (A → A' → C) → (A → B' → C) → (B → A' → C) → (B → B' → C) → A ⊎ B → A' ⊎ B' → C
+one_of aa ab ba bb (inl x) (inl y) = aa x y
+one_of aa ab ba bb (inl x) (inr y) = ab x y
+one_of aa ab ba bb (inr x) (inl y) = ba x y
+one_of aa ab ba bb (inr x) (inr y) = bb x y
+
+-- an edit is not both refused and made
+edit_not_both : (edit : Edit) (fault : SessionFault) (old new : SessionState) → IsOpenable old.steps.present → fault ≢ Memory → Refuses fault (request.Edit edit) old → MakesEdit edit old new → ⊥
+edit_not_both edit fault old new opens told why does = ⊎_elim
     (λ r. not_allowed edit old.steps.present r.0 opens r.2 does.allowed)
     (λ full. not_full edit fault old new opens full.0 why does)
     (edit_refused edit fault old told why)
+
+-- an edit is refused for one reason
+edit_one_refusal : (edit : Edit) (fault other : SessionFault) (old : SessionState) → IsOpenable old.steps.present → fault ≢ Memory → other ≢ Memory
+    → Refuses fault (request.Edit edit) old → Refuses other (request.Edit edit) old → fault ≡ other
+edit_one_refusal edit fault other old opens told told' why why' = one_of
+    (λ r r'. r.1 ∙ ap Refused (one_reason edit old.steps.present r.0 r'.0 opens r.2 r'.2) ∙ sym r'.1)
+    (λ r full. absurd (not_allowed edit old.steps.present r.0 opens r.2 full.1))
+    (λ full r. absurd (not_allowed edit old.steps.present r.0 opens r.2 full.1))
+    (λ full full'. full.0 ∙ sym full'.0)
+    (edit_refused edit fault old told why) (edit_refused edit other old told' why')
+
+-- ---- why an edit is refused at a position
+
+-- a key that one entry has is no reason
+holder_names : (key file : Text) (fault : EditFault) (db : Reading) → Reads file db → IsHolderFault file key fault → holders key db ≡ 1 → ⊥
+holder_names key file fault db reads (IsHolderFault.none_holds none) names = omega (arith, none db reads, names)
+holder_names key file fault db reads (IsHolderFault.many_hold many) names = omega (arith, many db reads, names)
+
+one_holder : (key file : Text) (fault other : EditFault) → IsOpenable file → IsHolderFault file key fault → IsHolderFault file key other → fault ≡ other
+one_holder key file fault other opens (IsHolderFault.none_holds none) (IsHolderFault.none_holds none') = refl
+one_holder key file fault other opens (IsHolderFault.none_holds none) (IsHolderFault.many_hold many) = absurd (omega (arith, none opens.0 opens.1.reads, many opens.0 opens.1.reads))
+one_holder key file fault other opens (IsHolderFault.many_hold many) (IsHolderFault.none_holds none) = absurd (omega (arith, none opens.0 opens.1.reads, many opens.0 opens.1.reads))
+one_holder key file fault other opens (IsHolderFault.many_hold many) (IsHolderFault.many_hold many') = refl
+
+-- a position that is refused names no entry, or several
+pub position_names : (position : Position) (file : Text) (fault : EditFault) (db : Reading) → Reads file db → IsPositionRefusal file position fault → NamesOneEntry position db → ⊥
+position_names (Number n) file fault db reads why names = why
+position_names End file fault db reads why names = why
+position_names (Before key) file fault db reads why names = holder_names key file fault db reads why names
+position_names (After key) file fault db reads why names = holder_names key file fault db reads why names
+
+-- a position is refused for one reason
+pub one_position : (position : Position) (file : Text) (fault other : EditFault) → IsOpenable file → IsPositionRefusal file position fault → IsPositionRefusal file position other → fault ≡ other
+one_position (Number n) file fault other opens why why' = absurd why
+one_position End file fault other opens why why' = absurd why
+one_position (Before key) file fault other opens why why' = one_holder key file fault other opens why why'
+one_position (After key) file fault other opens why why' = one_holder key file fault other opens why why'
+
+-- the edit at the place that the position says
+there : (position : Position) (edit : Edit) (fault : SessionFault) (old : SessionState) (place : ℕ) → IsOpenable old.steps.present → IsPlaceOf old.steps.present position edit place
+    → RefusesEditThere fault position edit old → Refuses fault (request.Edit (edit_at place edit)) old
+there position edit fault old place opens said why =
+    subst (λ (n : ℕ). RefusesEdit fault (edit_at n edit) old) ((why.said opens.0 opens.1.reads).1 ∙ sym (said opens.0 opens.1.reads).1) why.refused
+
+at_not_both : (position : Position) (edit : Edit) (fault : SessionFault) (old new : SessionState) → IsOpenable old.steps.present → fault ≢ Memory
+    → RefusesEditAt fault position edit old → MakesEditAt position edit old new → ⊥
+at_not_both position edit fault old new opens told why does = ⊎_elim
+    (λ p. position_names position old.steps.present p.own opens.0 opens.1.reads p.refused (does.said opens.0 opens.1.reads).0)
+    (λ t. edit_not_both (edit_at does.place edit) fault old new opens told (there position edit fault old does.place opens does.said t) does.made)
+    why
+
+at_one_refusal : (position : Position) (edit : Edit) (fault other : SessionFault) (old : SessionState) → IsOpenable old.steps.present → fault ≢ Memory → other ≢ Memory
+    → RefusesEditAt fault position edit old → RefusesEditAt other position edit old → fault ≡ other
+at_one_refusal position edit fault other old opens told told' why why' = one_of
+    (λ p p'. p.told ∙ ap Refused (one_position position old.steps.present p.own p'.own opens p.refused p'.refused) ∙ sym p'.told)
+    (λ p t. absurd (position_names position old.steps.present p.own opens.0 opens.1.reads p.refused (t.said opens.0 opens.1.reads).0))
+    (λ t p. absurd (position_names position old.steps.present p.own opens.0 opens.1.reads p.refused (t.said opens.0 opens.1.reads).0))
+    (λ t t'. edit_one_refusal (edit_at t.place edit) fault other old opens told told' t.refused (there position edit other old t.place opens t.said t'))
+    why why'
+
+-- ---- why a text is not put in
+
+-- each reason but the last has a lower rank than the last
+short_rank : (fault : EditFault) (reason : edits.EditFault) → fault ≢ edit_fault.TextTooLong → reason_of fault ≡ Some reason → rank reason < rank edits.TextTooLong
+short_rank edit_fault.BadKey reason short e = omega (arith, ap rank (same_Some edits.BadKey reason e))
+short_rank edit_fault.BadName reason short e = omega (arith, ap rank (same_Some edits.BadName reason e))
+short_rank edit_fault.BadValue reason short e = omega (arith, ap rank (same_Some edits.BadValue reason e))
+short_rank edit_fault.BadPosition reason short e = omega (arith, ap rank (same_Some edits.BadPosition reason e))
+short_rank edit_fault.NotFound reason short e = omega (arith, ap rank (same_Some edits.NotFound reason e))
+short_rank edit_fault.Ambiguous reason short e = omega (arith, ap rank (same_Some edits.Ambiguous reason e))
+short_rank edit_fault.KeyInUse reason short e = omega (arith, ap rank (same_Some edits.KeyInUse reason e))
+short_rank edit_fault.NameInUse reason short e = omega (arith, ap rank (same_Some edits.NameInUse reason e))
+short_rank edit_fault.Referred reason short e = omega (arith, ap rank (same_Some edits.Referred reason e))
+short_rank edit_fault.WouldMerge reason short e = omega (arith, ap rank (same_Some edits.WouldMerge reason e))
+short_rank edit_fault.FileTooLong reason short e = omega (arith, ap rank (same_Some edits.FileTooLong reason e))
+short_rank edit_fault.TextTooLong reason short e = absurd (short refl)
+short_rank edit_fault.Memory reason short e = absurd (none-some reason e)
+
+-- the first reason against an insertion
+first_reason : (file text : Text) (place : ℕ) (fault : EditFault) → fault ≢ edit_fault.Memory → IsInsertionRefusal file text place fault
+    → (reason : edits.EditFault) × (reason_of fault ≡ Some reason) × OfReading file (λ db. OfReading text (λ added. IsFirstRefusedInsertion place added db reason))
+first_reason file text place fault told why =
+    let reason = told_reason fault told in (
+      reason.0,
+      reason.1,
+      subst (λ (o : Option edits.EditFault). IfSome o (λ r. OfReading file (λ db. OfReading text (λ added. IsFirstRefusedInsertion place added db r)))) reason.1 why,
+    )
+
+-- an insertion that is planned is not refused before that
+planned_not_refused : (position : Position) (file text : Text) (pieces : List Piece) (fault : EditFault) → PlansInsertion position file text pieces → RefusesPlanned fault position file text → ⊥
+planned_not_refused position file text pieces fault plan why =
+    let db = plan.planned.file_opens in
+    let added = plan.planned.text_opens in
+    ⊎_elim
+    (λ p. position_names position file fault db.0 db.1.reads p (plan.said db.0 db.1.reads).0)
+    (λ t.
+    let there = subst (λ (n : ℕ). IsInsertionRefusal file text n fault) (one_place position file t.place plan.place db t.said plan.said) t.refused in
+    let reason = first_reason file text plan.place fault why.told there in
+    plan.planned.planned db.0 db.1.reads added.0 added.1.reads reason.0 (short_rank fault reason.0 why.short reason.1) (reason.2 db.0 db.1.reads added.0 added.1.reads).holds)
+    why.refused
+
+-- an insertion is refused for one reason before it is planned
+one_planned : (position : Position) (file text : Text) (fault other : EditFault) → IsOpenable file → RefusesPlanned fault position file text → RefusesPlanned other position file text → fault ≡ other
+one_planned position file text fault other db why why' = one_of
+    (λ p p'. one_position position file fault other db p p')
+    (λ p t. absurd (position_names position file fault db.0 db.1.reads p (t.said db.0 db.1.reads).0))
+    (λ t p. absurd (position_names position file other db.0 db.1.reads p (t.said db.0 db.1.reads).0))
+    (λ t t'.
+    let added = why.opens in
+    let there = subst (λ (n : ℕ). IsInsertionRefusal file text n other) (one_place position file t'.place t.place db t'.said t.said) t'.refused in
+    let reason = first_reason file text t.place fault why.told t.refused in
+    let reason' = first_reason file text t.place other why'.told there in
+    let first = reason.2 db.0 db.1.reads added.0 added.1.reads in
+    let first' = reason'.2 db.0 db.1.reads added.0 added.1.reads in
+    let same : rank reason.0 ≡ rank reason'.0 = omega (arith, λ (h : rank reason'.0 < rank reason.0). first.first reason'.0 h first'.holds, λ (h : rank reason.0 < rank reason'.0). first'.first reason.0 h first.holds) in
+    fault_by_rank fault reason.0 reason.1 ∙ ap fault_of same ∙ sym (fault_by_rank other reason'.0 reason'.1))
+    why.refused why'.refused
+
+-- why a planned insertion is not made
+abbrev Late : Position → Text → SessionState → SessionFault → Type 0
+Late position text old fault = ((fault ≡ JournalFull) × LacksRoomFor position text old) ⊎ ((fault ≡ Refused edit_fault.TextTooLong) × MakesLongText position text old)
+
+-- the text can't be opened
+abbrev Unreadable : Text → SessionFault → Type 0
+Unreadable text fault = (own : ReadFault) × (fault ≡ Unopened own) × (own.kind ≢ 10) × IsOpenFault text own.kind own.place
+
+-- the insertion is refused before it is planned
+abbrev Early : Position → Text → SessionState → SessionFault → Type 0
+Early position text old fault = (own : EditFault) × (fault ≡ Refused own) × RefusesPlanned own position old.steps.present text
+
+-- why an insertion is not made, one after another
+abbrev Why : Position → Text → SessionState → SessionFault → Type 0
+Why position text old fault = ((fault ≡ StepOpen) × (old.current ≢ NoStep)) ⊎ ((old.current ≡ NoStep) × (Unreadable text fault ⊎ (Early position text old fault ⊎ Late position text old fault)))
+
+plan_why : (position : Position) (text : Text) (fault : SessionFault) (old : SessionState) → fault ≢ Memory → RefusesPlan fault position old.steps.present text
+    → Unreadable text fault ⊎ (Early position text old fault ⊎ Late position text old fault)
+plan_why position text (Unopened fault) old told why = inl (fault, refl, why.0, why.1)
+plan_why position text (Refused fault) old told why = inr (inl (fault, refl, why))
+plan_why position text Memory old told why = absurd (told refl)
+plan_why position text JournalFull old told why = absurd why
+plan_why position text NothingToUndo old told why = absurd why
+plan_why position text NothingToRedo old told why = absurd why
+plan_why position text (BadJournal place) old told why = absurd why
+plan_why position text JournalMismatch old told why = absurd why
+plan_why position text StepOpen old told why = absurd why
+plan_why position text NoOpenStep old told why = absurd why
+
+insertion_why : (position : Position) (text : Text) (fault : SessionFault) (old : SessionState) → fault ≢ Memory → RefusesInsertion position text old fault → Why position text old fault
+insertion_why position text fault old told (RefusesInsertion.during during) = inl (refl, during)
+insertion_why position text _ old told (RefusesInsertion.unplanned fault closed why) = inr (closed, plan_why position text fault old told why)
+insertion_why position text fault old told (RefusesInsertion.full closed full) = inr (closed, inr (inr (inl (refl, full))))
+insertion_why position text fault old told (RefusesInsertion.long closed long) = inr (closed, inr (inr (inr (refl, long))))
+
+-- an insertion that can't be kept has no room
+insertion_not_full : (position : Position) (text : Text) (pieces : List Piece) (old : SessionState) → LacksRoomFor position text old → PlansInsertion position old.steps.present text pieces
+    → (LacksRoom NoStep pieces old.steps → ⊥) → ⊥
+insertion_not_full position text pieces old full plan room =
+    room (subst (λ (ps : List Piece). LacksRoom NoStep ps old.steps) (one_plan position old.steps.present text full.pieces pieces full.plan plan) full.full)
+
+insertion_not_both : (position : Position) (text : Text) (fault : SessionFault) (old new : SessionState) → fault ≢ Memory → RefusesInsertion position text old fault → Inserts position text old new → ⊥
+insertion_not_both position text fault old new told why does =
+    let file : Text = old.steps.present in
+    let db = does.plan.planned.file_opens in
+    let added = does.plan.planned.text_opens in
+    ⊎_elim (λ during. during.1 does.closed)
+    (λ closed. ⊎_elim
+    (λ unread. unread.2 (open_fault text unread.0.kind unread.0.place added unread.3))
+    (λ others. ⊎_elim
+    (λ early. planned_not_refused position file text does.pieces early.0 does.plan early.2)
+    (λ late. ⊎_elim
+    (λ full. insertion_not_full position text does.pieces old full.1 does.plan does.room)
+    (λ long.
+    let there = subst (λ (n : ℕ). IsInsertionRefusal file text n edit_fault.TextTooLong) (one_place position file long.1.plan.place does.plan.place db long.1.plan.said does.plan.said) long.1.long in
+    does.allowed db.0 db.1.reads added.0 added.1.reads edits.TextTooLong (there db.0 db.1.reads added.0 added.1.reads).holds)
+    late)
+    others)
+    closed.1)
+    (insertion_why position text fault old told why)
+
+-- the text of an insertion that is refused later can be opened
+late_opens : (position : Position) (text : Text) (fault : SessionFault) (old : SessionState) → Early position text old fault ⊎ Late position text old fault → IsOpenable text
+late_opens position text fault old why = ⊎_elim (λ early. early.2.opens) (λ late. ⊎_elim (λ full. full.1.plan.planned.text_opens) (λ long. long.1.plan.planned.text_opens) late) why
+
+-- what was planned before it was refused
+late_not_early : (position : Position) (text : Text) (fault other : SessionFault) (old : SessionState) → Late position text old fault → Early position text old other → ⊥
+late_not_early position text fault other old late early = ⊎_elim
+    (λ full. planned_not_refused position old.steps.present text full.1.pieces early.0 full.1.plan early.2)
+    (λ long. planned_not_refused position old.steps.present text long.1.pieces early.0 long.1.plan early.2)
+    late
+
+one_late : (position : Position) (text : Text) (fault other : SessionFault) (old : SessionState) → Late position text old fault → Late position text old other → fault ≡ other
+one_late position text fault other old why why' = one_of
+    (λ full full'. full.0 ∙ sym full'.0)
+    (λ full long. absurd (insertion_not_full position text long.1.pieces old full.1 long.1.plan long.1.room))
+    (λ long full. absurd (insertion_not_full position text long.1.pieces old full.1 long.1.plan long.1.room))
+    (λ long long'. long.0 ∙ sym long'.0)
+    why why'
+
+same_read_fault : (fault other : ReadFault) → SamePlace fault.kind fault.place other.kind other.place → fault ≡ other
+same_read_fault fault other same = ap₂ (λ (k p : ℕ). record { kind = k; place = p }) same.0 same.1
+
+one_closed : (position : Position) (text : Text) (fault other : SessionFault) (old : SessionState) → IsOpenable old.steps.present
+    → Unreadable text fault ⊎ (Early position text old fault ⊎ Late position text old fault) → Unreadable text other ⊎ (Early position text old other ⊎ Late position text old other) → fault ≡ other
+one_closed position text fault other old opens why why' = one_of
+    (λ u u'. u.1 ∙ ap Unopened (same_read_fault u.0 u'.0 (one_open_fault text u.0.kind u.0.place u'.0.kind u'.0.place u.2 u'.2 u.3 u'.3)) ∙ sym u'.1)
+    (λ u later. absurd (u.2 (open_fault text u.0.kind u.0.place (late_opens position text other old later) u.3)))
+    (λ later u. absurd (u.2 (open_fault text u.0.kind u.0.place (late_opens position text fault old later) u.3)))
+    (λ later later'. one_of
+    (λ early early'. early.1 ∙ ap Refused (one_planned position old.steps.present text early.0 early'.0 opens early.2 early'.2) ∙ sym early'.1)
+    (λ early late. absurd (late_not_early position text other fault old late early))
+    (λ late early. absurd (late_not_early position text fault other old late early))
+    (λ late late'. one_late position text fault other old late late')
+    later later')
+    why why'
+
+insertion_one_refusal : (position : Position) (text : Text) (fault other : SessionFault) (old : SessionState) → IsOpenable old.steps.present → fault ≢ Memory → other ≢ Memory
+    → RefusesInsertion position text old fault → RefusesInsertion position text old other → fault ≡ other
+insertion_one_refusal position text fault other old opens told told' why why' = one_of
+    (λ during during'. during.0 ∙ sym during'.0)
+    (λ during closed. absurd (during.1 closed.0))
+    (λ closed during. absurd (during.1 closed.0))
+    (λ closed closed'. one_closed position text fault other old opens closed.1 closed'.1)
+    (insertion_why position text fault old told why) (insertion_why position text other old told' why')
+
+-- a request is not both refused and done
+pub not_both : (request : Request) (fault : SessionFault) (old new : SessionState) → IsOpenable old.steps.present → fault ≢ Memory → Refuses fault request old → Does request old new → ⊥
+not_both (request.Edit edit) fault old new opens told why does = edit_not_both edit fault old new opens told why does
+not_both (request.Place position edit) fault old new opens told why does = at_not_both position edit fault old new opens told why does
+not_both (request.Insert position text) fault old new opens told why does = insertion_not_both position text fault old new told why does
 not_both (request.Begin label) fault old new opens told why does = (begin_why label fault old told why).1 does.closed
 not_both request.End fault old new opens told why does = does.current why.none
 not_both request.Undo fault old new opens told why does = ⊎_elim
@@ -228,22 +503,12 @@ not_both request.Redo fault old new opens told why does = ⊎_elim
     (λ w. omega (arith, ap length (sym does.carried.future ∙ w.2)))
     (redo_why fault old told why)
 
--- two ways that exclude one another
-abbrev one_of : {A B A' B' C : Type 0} → (A → A' → C) → (A → B' → C) → (B → A' → C) → (B → B' → C) → A ⊎ B → A' ⊎ B' → C
-one_of aa ab ba bb (inl x) (inl y) = aa x y
-one_of aa ab ba bb (inl x) (inr y) = ab x y
-one_of aa ab ba bb (inr x) (inl y) = ba x y
-one_of aa ab ba bb (inr x) (inr y) = bb x y
-
 -- a request is refused for one reason
 pub one_refusal : (request : Request) (fault other : SessionFault) (old : SessionState) → IsOpenable old.steps.present → fault ≢ Memory → other ≢ Memory
     → Refuses fault request old → Refuses other request old → fault ≡ other
-one_refusal (request.Edit edit) fault other old opens told told' why why' = one_of
-    (λ r r'. r.1 ∙ ap Refused (one_reason edit old.steps.present r.0 r'.0 opens r.2 r'.2) ∙ sym r'.1)
-    (λ r full. absurd (not_allowed edit old.steps.present r.0 opens r.2 full.1))
-    (λ full r. absurd (not_allowed edit old.steps.present r.0 opens r.2 full.1))
-    (λ full full'. full.0 ∙ sym full'.0)
-    (edit_refused edit fault old told why) (edit_refused edit other old told' why')
+one_refusal (request.Edit edit) fault other old opens told told' why why' = edit_one_refusal edit fault other old opens told told' why why'
+one_refusal (request.Place position edit) fault other old opens told told' why why' = at_one_refusal position edit fault other old opens told told' why why'
+one_refusal (request.Insert position text) fault other old opens told told' why why' = insertion_one_refusal position text fault other old opens told told' why why'
 one_refusal (request.Begin label) fault other old opens told told' why why' = (begin_why label fault old told why).0 ∙ sym (begin_why label other old told' why').0
 one_refusal request.End fault other old opens told told' why why' = why.told ∙ sym why'.told
 one_refusal request.Undo fault other old opens told told' why why' = one_of

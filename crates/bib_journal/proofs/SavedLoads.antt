@@ -6,21 +6,8 @@ use Rattle.bib_spec.specs.Texts.{too_long_at}
 use Rattle.bib_store.specs.Readings.{IsOpenFault}
 use Rattle.bib_journal.specs.Session.{RefusesStart, RefusesLoad}
 use Rattle.bib_journal.specs.SavedLoads.{what_is_saved_is_loaded}
+use Rattle.bib_journal.proofs.OpenFaults.{open_fault}
 use Rattle.bib_journal.proofs.SeveralRuns.{saved_loads}
-
--- a file that opens is not opened only where memory is refused
-read_fault : (file : Text) (kind place : ℕ) → IsOpenable file → IsReadFault file kind place → kind ≡ 10
-read_fault file kind place opens (too_long over) = absurd (let short = opens.1.short in omega (arith, over, short))
-read_fault file kind place opens (no_reading fault at within failing wrong) = absurd (failing.fails (opens.0, opens.1.reads))
-read_fault file kind place opens (no_memory within) = refl
-
-some_is_none : (place : ℕ) → Some place ≡ None → ⊥
-some_is_none place is = search rules
-
-pub open_fault : (file : Text) (kind place : ℕ) → IsOpenable file → IsOpenFault file kind place → kind ≡ 10
-open_fault file kind place opens (inl fault) = read_fault file kind place opens fault
-open_fault file kind place opens (inr fault) =
-    absurd (some_is_none place (sym fault.first ∙ ap too_long_at (one_reading name_limit file fault.db opens.0 fault.reads opens.1.reads) ∙ opens.1.texts))
 
 -- a session that opens is refused for want of memory alone
 start_refused : (file : Text) → IsOpenable file → (fault : SessionFault) → RefusesStart fault file → fault ≡ Memory

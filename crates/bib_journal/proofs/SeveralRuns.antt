@@ -12,7 +12,10 @@ use Rattle.journal_format.proofs.JournalLaws.{texts-are-journals}
 use Rattle.bib_data.specs.declared.request.Request.TheVariants as request
 use Rattle.bib_journal.specs.Session.{started}
 use Rattle.bib_journal.specs.Runs.{left, IsRun, requests_of, Course, Moves, MovesAll, one_opening, runs_are_one_session, sessions_are_one, undoing_all_leads_to_the_first_file, redoing_all_leads_to_the_last_file}
-use Rattle.bib_journal.proofs.Moves.{planned_leads, steps_move, made_open, none_open}
+use Rattle.bib_data.specs.declared.position.Position.{Position}
+use Rattle.bib_edit.specs.Positions.{edit_at}
+use Rattle.bib_journal.specs.Session.{Inserts}
+use Rattle.bib_journal.proofs.Moves.{planned_leads, insertion_leads, steps_move, made_open, none_open}
 
 -- ---- one history
 
@@ -49,9 +52,17 @@ edit_is_good edit old new w makes = (
   subst (IsOpenIn new.steps) (sym makes.current) (made_open old.current makes.pieces old.steps new.steps w.1 makes.step),
 )
 
+insertion_is_good : (position : Position) (text : Text) (old new : SessionState) → IsGood old → Inserts position text old new → IsGood new
+insertion_is_good position text old new w inserts = (
+  (steps_move NoStep inserts.pieces old.steps new.steps w.0 tt (insertion_leads position old.steps.present text inserts.pieces inserts.plan inserts.allowed) inserts.room inserts.step).0,
+  none_open new.steps new.current inserts.still,
+)
+
 -- a request leaves what is kept good
 pub does_keeps_good : (request : Request) (old new : SessionState) → IsGood old → Does request old new → IsGood new
 does_keeps_good (request.Edit edit) old new w does = edit_is_good edit old new w does
+does_keeps_good (request.Place position edit) old new w does = edit_is_good (edit_at does.place edit) old new w does.made
+does_keeps_good (request.Insert position text) old new w does = insertion_is_good position text old new w does
 does_keeps_good (request.Begin label) old new w does = (subst IsSound (sym does.steps) w.0, subst (IsOpenIn new.steps) (sym does.current) does.label)
 does_keeps_good request.End old new w does = (subst IsSound (sym does.steps) w.0, none_open new.steps new.current does.closed)
 does_keeps_good request.Undo old new w does = ((going-back-undoes does.step old.steps new.steps w.0 does.carried).0, none_open new.steps new.current does.still)
@@ -69,6 +80,8 @@ same_course old new current steps is =
 
 does_moves : (request : Request) (old new : SessionState) → Does request old new → Moves request (course_of old) (course_of new)
 does_moves (request.Edit edit) old new does = (does.file, does.current)
+does_moves (request.Place position edit) old new does = ((does.place, does.said, does.made.file), does.made.current)
+does_moves (request.Insert position text) old new does = (does.closed, does.still, (does.plan.place, does.plan.said, does.file))
 does_moves (request.Begin label) old new does = (does.closed, same_course old new (NewStep label) does.steps does.current)
 does_moves request.End old new does = (does.current, same_course old new NoStep does.steps does.closed)
 does_moves request.Undo old new does = (does.closed, does.still, does.file)
@@ -110,10 +123,17 @@ edit_keeps_first LastStep file old new o moves =
     ap (λ (fs : List Text). first_in fs new.present) moves.past
     ∙ first_kept (files_before old.past old.present) old.present new.present (some_before old.past old.present o.0)
 
-does_keeps_first : (request : Request) (old new : SessionState) → IsGood old → Does request old new → first_file (history_of new.steps) ≡ first_file (history_of old.steps)
-does_keeps_first (request.Edit edit) old new w does =
+edit_made_keeps_first : (edit : Edit) (old new : SessionState) → IsGood old → MakesEdit edit old new → first_file (history_of new.steps) ≡ first_file (history_of old.steps)
+edit_made_keeps_first edit old new w makes =
     let one : (e : edits.Edit) × AsksFor edit e = asked_for edit in
-    edit_keeps_first old.current (bytes_of (edited made_base w.0.present.0 one.0)) old.steps new.steps w.1 (does.file w.0.present.0 w.0.present.1.reads one.0 one.1)
+    edit_keeps_first old.current (bytes_of (edited made_base w.0.present.0 one.0)) old.steps new.steps w.1 (makes.file w.0.present.0 w.0.present.1.reads one.0 one.1)
+
+does_keeps_first : (request : Request) (old new : SessionState) → IsGood old → Does request old new → first_file (history_of new.steps) ≡ first_file (history_of old.steps)
+does_keeps_first (request.Edit edit) old new w does = edit_made_keeps_first edit old new w does
+does_keeps_first (request.Place position edit) old new w does = edit_made_keeps_first (edit_at does.place edit) old new w does.made
+does_keeps_first (request.Insert position text) old new w does =
+    let added = does.plan.planned.text_opens in
+    first_after (history_of old.steps) (history_of new.steps) (does.file w.0.present.0 w.0.present.1.reads added.0 added.1.reads).past
 does_keeps_first (request.Begin label) old new w does = ap (λ (k : KeptSteps). first_file (history_of k)) does.steps
 does_keeps_first request.End old new w does = ap (λ (k : KeptSteps). first_file (history_of k)) does.steps
 does_keeps_first request.Undo old new w does = sym (first_after (history_of new.steps) (history_of old.steps) does.file.past)

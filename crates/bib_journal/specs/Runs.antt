@@ -1,15 +1,17 @@
 -- Several runs: each opens the file and the journal that the one before left, does its requests, and leaves both again. (dialect)
-use Rattle.std.specs.Prelude.{◌≡◌, ◌≢◌, if◌then◌else◌, Bool, true, false, List, [], ◌∷◌, ◌++◌, length, replicate, Option, Some}
+use Rattle.std.specs.Prelude.{ℕ, ◌≡◌, ◌≢◌, if◌then◌else◌, Bool, true, false, List, [], ◌∷◌, ◌++◌, length, replicate, Option, Some}
 use Rattle.bib_spec.specs.Text.{Text}
 use Rattle.bib_spec.specs.Reading.{bytes_of}
-use Rattle.history_spec.specs.History.{History, Undoes, Redoes}
+use Rattle.history_spec.specs.History.{History, Edits, Undoes, Redoes}
 use Rattle.history_spec.specs.Steps.{KeptSteps, history_of, first_of}
 use Rattle.edit_spec.specs.Edits.{edited}
+use Rattle.insert_spec.specs.Insertion.{inserted}
 use Rattle.bib_store.specs.Readings.{OfReading}
 use Rattle.bib_data.specs.declared.request.Request.{Request}
 use Rattle.bib_data.specs.declared.request.Request.TheVariants as request
 use Rattle.bib_keys.specs.MadeBase.{made_base}
 use Rattle.bib_edit.specs.Asking.{OfEdit}
+use Rattle.bib_edit.specs.Positions.{IsPlaceOf, IsPositionPlace, edit_at}
 use Rattle.bib_journal.specs.declared.saving.Saved.{Saved}
 use Rattle.bib_journal.specs.Loading.{Saves, last_of}
 use Rattle.bib_journal.specs.OpenSteps.{SessionState, idle, after_edit, MovesTo}
@@ -71,6 +73,10 @@ course_of state = record { history = history_of state.steps; current = state.cur
 -- what an accepted request makes of the history of whole files
 abbrev pub Moves : Request → Course → Course → Type 0
 Moves (request.Edit edit) old new = OfReading old.history.present (λ db. OfEdit edit (λ e. MovesTo old.current (bytes_of (edited made_base db e)) old.history new.history)) × (new.current ≡ after_edit old.current)
+Moves (request.Place position edit) old new = ((place : ℕ) × IsPlaceOf old.history.present position edit place
+    × OfReading old.history.present (λ db. OfEdit (edit_at place edit) (λ e. MovesTo old.current (bytes_of (edited made_base db e)) old.history new.history))) × (new.current ≡ after_edit old.current)
+Moves (request.Insert position text) old new = (old.current ≡ NoStep) × (new.current ≡ NoStep) × ((place : ℕ) × IsPositionPlace old.history.present position place
+    × OfReading old.history.present (λ db. OfReading text (λ added. Edits (bytes_of (inserted place added db)) old.history new.history)))
 Moves (request.Begin label) old new = (old.current ≡ NoStep) × (new ≡ record old { current = NewStep label })
 Moves request.End old new = (old.current ≢ NoStep) × (new ≡ record old { current = NoStep })
 Moves request.Undo old new = (old.current ≡ NoStep) × (new.current ≡ NoStep) × Undoes old.history new.history

@@ -1,20 +1,25 @@
 -- What a session answers to a request.
-use Rattle.std.specs.Prelude.{ℕ, ◌≡◌, ◌≢◌, ◌≤◌, List, [], ◌∷◌, length, take, drop, Option, Some, None}
+use Rattle.std.specs.Prelude.{ℕ, ◌≡◌, ◌≢◌, ◌≤◌, ◌⊎◌, List, [], ◌∷◌, length, take, drop, Option, Some, None}
 use Rattle.bib_spec.specs.Bytes.{file_limit}
 use Rattle.bib_spec.specs.Text.{Text}
 use Rattle.bib_spec.specs.Pieces.{Piece}
 use Rattle.bib_spec.specs.Reading.{bytes_of}
 use Rattle.bib_spec.specs.Texts.{IsOpenable}
 use Rattle.history_spec.specs.History.{Undoes, Redoes}
-use Rattle.history_spec.specs.Steps.{Step, IsLabel, KeptSteps, history_of, GoesBack, GoesOn}
+use Rattle.history_spec.specs.Steps.{Step, IsLabel, KeptSteps, IsAllowed, history_of, GoesBack, GoesOn}
 use Rattle.edit_spec.specs.Edits.{edited}
 use Rattle.edit_spec.specs.EditChunks.{pieces_of}
+use Rattle.insert_spec.specs.Insertion.{inserted}
 use Rattle.bib_store.specs.Readings.{OfReading, IsOpenFault}
 use Rattle.bib_data.specs.declared.edit.Edit.{Edit}
+use Rattle.bib_data.specs.declared.position.Position.{Position}
 use Rattle.bib_edit.specs.declared.fault.EditFault.TheVariants as edit_fault
 use Rattle.bib_keys.specs.MadeBase.{made_base}
 use Rattle.bib_edit.specs.Asking.{OfEdit}
 use Rattle.bib_edit.specs.Planning.{IsAllowedEdit, ArePiecesOf, IsRefusal}
+use Rattle.bib_edit.specs.Positions.{IsPositionPlace, IsPositionRefusal, IsPlaceOf, edit_at}
+use Rattle.bib_edit.specs.Insertions.{IsPlannedAs, IsAllowedInsertion, IsInsertionRefusal}
+use Rattle.bib_edit.specs.declared.fault.EditFault.{EditFault}
 use Rattle.journal_format.specs.Faults.{IsNoJournal}
 use Rattle.bib_journal.specs.Loading.{Loads, IsMismatch}
 use Rattle.bib_journal.specs.OpenSteps.{SessionState, after_edit, MakesSteps, LacksRoom, MovesTo}
@@ -102,6 +107,110 @@ RefusesEdit JournalMismatch edit state = ⊥
 RefusesEdit StepOpen edit state = ⊥
 RefusesEdit NoOpenStep edit state = ⊥
 
+-- ---- edits at a position
+
+-- the edit is made at the place that the position says, in place of its own
+pub record MakesEditAt (position : Position) (edit : Edit) (old new : SessionState) : Type 0 where
+  pub place : ℕ
+  pub said : IsPlaceOf old.steps.present position edit place
+  pub made : MakesEdit (edit_at place edit) old new
+
+-- the fault is that of the position
+pub record RefusesPosition (fault : SessionFault) (position : Position) (file : Text) : Type 0 where
+  pub own : EditFault
+  pub told : fault ≡ Refused own
+  pub refused : IsPositionRefusal file position own
+
+-- the edit is refused at the place that the position says
+pub record RefusesEditThere (fault : SessionFault) (position : Position) (edit : Edit) (state : SessionState) : Type 0 where
+  pub place : ℕ
+  pub said : IsPlaceOf state.steps.present position edit place
+  pub refused : RefusesEdit fault (edit_at place edit) state
+
+-- why an edit is not made at a position: a reason against the position, or else against the edit there
+abbrev pub RefusesEditAt : SessionFault → Position → Edit → SessionState → Type 0
+RefusesEditAt fault position edit state = RefusesPosition fault position state.steps.present ⊎ RefusesEditThere fault position edit state
+
+-- ---- insertions
+
+-- the insertion of the text at the position is planned, with these pieces
+pub record PlansInsertion (position : Position) (file text : Text) (pieces : List Piece) : Type 0 where
+  pub place : ℕ
+  pub said : IsPositionPlace file position place
+  pub planned : IsPlannedAs file text place pieces
+
+-- Nothing refuses the insertion, no step is open, and there is room for its pieces. They are a step of their own. The present is the
+-- file with the text put in at the position.
+pub record Inserts (position : Position) (text : Text) (old new : SessionState) : Type 0 where
+  pub closed : old.current ≡ NoStep
+  pub still : new.current ≡ NoStep
+  pub pieces : List Piece
+  pub plan : PlansInsertion position old.steps.present text pieces
+  pub allowed : IsAllowedInsertion old.steps.present text plan.place
+  pub room : LacksRoom NoStep pieces old.steps → ⊥
+  pub step : MakesSteps NoStep pieces old.steps new.steps
+  pub file : OfReading old.steps.present (λ db. OfReading text (λ added. MovesTo NoStep (bytes_of (inserted plan.place added db)) (history_of old.steps) (history_of new.steps)))
+
+-- a reason refuses the insertion at the place that the position says
+pub record RefusesInsertionThere (fault : EditFault) (position : Position) (file text : Text) : Type 0 where
+  pub place : ℕ
+  pub said : IsPositionPlace file position place
+  pub refused : IsInsertionRefusal file text place fault
+
+-- a reason refuses the insertion before it is planned: one against the position, or else one against the insertion there
+pub record RefusesPlanned (fault : EditFault) (position : Position) (file text : Text) : Type 0 where
+  pub opens : IsOpenable text
+  pub told : fault ≢ edit_fault.Memory
+  pub short : fault ≢ edit_fault.TextTooLong
+  pub refused : IsPositionRefusal file position fault ⊎ RefusesInsertionThere fault position file text
+
+-- why an insertion is not planned: the text can't be opened by itself, or else a reason; or memory was refused
+abbrev pub RefusesPlan : SessionFault → Position → Text → Text → Type 0
+RefusesPlan Memory position file text = Unit {0}
+RefusesPlan (Unopened fault) position file text = (fault.kind ≢ 10) × IsOpenFault text fault.kind fault.place
+RefusesPlan (Refused fault) position file text = RefusesPlanned fault position file text
+RefusesPlan JournalFull position file text = ⊥
+RefusesPlan NothingToUndo position file text = ⊥
+RefusesPlan NothingToRedo position file text = ⊥
+RefusesPlan (BadJournal place) position file text = ⊥
+RefusesPlan JournalMismatch position file text = ⊥
+RefusesPlan StepOpen position file text = ⊥
+RefusesPlan NoOpenStep position file text = ⊥
+
+-- the pieces of an insertion are made a step of their own, and lead to a file
+pub record MakesInsertion (pieces : List Piece) (old new : SessionState) : Type 0 where
+  pub leads : IsAllowed pieces old.steps.present
+  pub room : LacksRoom NoStep pieces old.steps → ⊥
+  pub step : MakesSteps NoStep pieces old.steps new.steps
+  pub still : new.current ≡ NoStep
+
+-- why the pieces of an insertion are not made a step: they can't be kept; or else they lead to no file; or memory was refused
+pub data RefusesPieces (pieces : List Piece) (state : SessionState) : SessionFault → Type 0 where
+  overfull : LacksRoom NoStep pieces state.steps → RefusesPieces pieces state JournalFull
+  unopenable : (LacksRoom NoStep pieces state.steps → ⊥) → (IsAllowed pieces state.steps.present → ⊥) → RefusesPieces pieces state (Refused edit_fault.TextTooLong)
+  no_memory : RefusesPieces pieces state Memory
+
+-- the insertion is planned, and its pieces can't be kept
+pub record LacksRoomFor (position : Position) (text : Text) (state : SessionState) : Type 0 where
+  pub pieces : List Piece
+  pub plan : PlansInsertion position state.steps.present text pieces
+  pub full : LacksRoom NoStep pieces state.steps
+
+-- the insertion is planned and can be kept, and a text would be too long
+pub record MakesLongText (position : Position) (text : Text) (state : SessionState) : Type 0 where
+  pub pieces : List Piece
+  pub plan : PlansInsertion position state.steps.present text pieces
+  pub room : LacksRoom NoStep pieces state.steps → ⊥
+  pub long : IsInsertionRefusal state.steps.present text plan.place edit_fault.TextTooLong
+
+-- Why a text is not put in: a step is open; or else it is not planned; or else its pieces can't be kept; or else a text would be too
+-- long.
+pub data RefusesInsertion (position : Position) (text : Text) (state : SessionState) : SessionFault → Type 0 where
+  during : state.current ≢ NoStep → RefusesInsertion position text state StepOpen
+  unplanned : (fault : SessionFault) → state.current ≡ NoStep → RefusesPlan fault position state.steps.present text → RefusesInsertion position text state fault
+  full : state.current ≡ NoStep → LacksRoomFor position text state → RefusesInsertion position text state JournalFull
+  long : state.current ≡ NoStep → MakesLongText position text state → RefusesInsertion position text state (Refused edit_fault.TextTooLong)
+
 -- ---- steps of several edits
 
 -- a step is opened, with this label
@@ -184,6 +293,8 @@ RefusesRedo NoOpenStep state = ⊥
 -- what an accepted request does
 abbrev pub Does : Request → SessionState → SessionState → Type 0
 Does (request.Edit edit) old new = MakesEdit edit old new
+Does (request.Place position edit) old new = MakesEditAt position edit old new
+Does (request.Insert position text) old new = Inserts position text old new
 Does (request.Begin label) old new = Begins label old new
 Does request.End old new = Ends old new
 Does request.Undo old new = TakesBack old new
@@ -192,6 +303,8 @@ Does request.Redo old new = MakesAgain old new
 -- why a request is refused
 abbrev pub Refuses : SessionFault → Request → SessionState → Type 0
 Refuses fault (request.Edit edit) state = RefusesEdit fault edit state
+Refuses fault (request.Place position edit) state = RefusesEditAt fault position edit state
+Refuses fault (request.Insert position text) state = RefusesInsertion position text state fault
 Refuses fault (request.Begin label) state = RefusesBegin fault state
 Refuses fault request.End state = RefusesEnd fault state
 Refuses fault request.Undo state = RefusesUndo fault state

@@ -7,6 +7,7 @@ mod changing;
 mod closing;
 mod fault;
 mod growing;
+mod inserting;
 mod inside;
 mod laws;
 mod loading;
@@ -30,7 +31,7 @@ pub use laws::{
     a_journal_keeps_one_history, requests_have_one_result, several_runs_are_one_session,
 };
 pub use other_entries::other_entries_keep_their_records;
-pub use performing::{Performed, perform, repeat};
+pub use performing::{Performed, perform, perform_one, repeat};
 pub use renaming::{
     a_script_of_renamings_keeps_every_record, keys_are_made_once, renaming_keeps_every_record,
 };

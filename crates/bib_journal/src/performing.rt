@@ -17,7 +17,10 @@ pub struct Performed {
 }
 
 /// Does one request.
-fn perform_one<L: ItemList>(session: &mut Session<L>, request: &Request) -> Result<(), SessionFault>
+pub fn perform_one<L: ItemList>(
+    session: &mut Session<L>,
+    request: &Request,
+) -> Result<(), SessionFault>
     requires { AsksWithDepth request.now }
     ensures done { OnOk result (Does request.now session.old session.new) }
     ensures refused { IfErr result (λ fault. Refuses fault request.now session.old) }
@@ -25,6 +28,8 @@ fn perform_one<L: ItemList>(session: &mut Session<L>, request: &Request) -> Resu
 {
     match request {
         Request::Edit(edit) => session.edit(edit),
+        Request::Place(position, edit) => session.edit_at(position, edit),
+        Request::Insert(position, text) => session.insert(position, text.as_slice()),
         Request::Begin(label) => session.begin(label.as_slice()),
         Request::End => session.end(),
         Request::Undo => session.undo(),

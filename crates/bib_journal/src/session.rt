@@ -1,6 +1,6 @@
 //! An open file with its history.
 
-ghost use Rattle.std.specs.Prelude.{◌≡◌, ◌+◌, ◌<◌, ◌++◌, [], length, reverse, slice_get, Some, option_map, IfOk, IfErr, OnOk, OnErr, ◌≢◌, ◌⊎◌};
+ghost use Rattle.std.specs.Prelude.{◌≡◌, ◌+◌, ◌<◌, ◌++◌, ◌↔◌, [], false, length, reverse, slice_get, Some, option_map, IsTrue, IfOk, IfErr, OnOk, OnErr, ◌≢◌, ◌⊎◌};
 ghost use Rattle.bib_spec.specs.Texts.{IsOpenable};
 ghost use Rattle.bib_spec.specs.Pieces.{Piece as FilePiece, applied};
 ghost use Rattle.history_spec.specs.Steps.{IsSound, AreSteps, IsLabel, IsAllowed};
@@ -8,18 +8,20 @@ ghost use Rattle.bib_data.specs.Depths.{HasDepth};
 ghost use Rattle.journal_format.specs.Faults.{IsTextOf};
 ghost use Rattle.bib_journal.specs.Loading.{Loads, Saves, FitFile, contents_of};
 ghost use Rattle.bib_journal.specs.OpenSteps.{idle, after_edit, MakesSteps, LacksRoom};
-ghost use Rattle.bib_journal.specs.Session.{started, MakesEdit, IsOpened, Begins, Ends, RefusesStart, RefusesLoad, RefusesOpen, RefusesEdit, RefusesBegin, RefusesEnd, RefusesUndo, RefusesRedo, TakesBack, MakesAgain};
+ghost use Rattle.bib_journal.specs.Session.{started, MakesEdit, MakesEditAt, Inserts, IsOpened, Begins, Ends, RefusesStart, RefusesLoad, RefusesOpen, RefusesEdit, RefusesEditAt, RefusesInsertion, MakesInsertion, RefusesPieces, RefusesBegin, RefusesEnd, RefusesUndo, RefusesRedo, TakesBack, MakesAgain};
 ghost use Rattle.bib_journal.specs.declared.fault.SessionFault.TheVariants.{JournalFull, Memory};
 ghost use Rattle.bib_journal.specs.declared.open_step.OpenStep.TheVariants.{NoStep, LastStep};
 
 use crate::closing::close;
 use crate::fault::{SessionFault, refused, unopened};
 use crate::growing::grow;
+use crate::inserting::insertion_of;
 use crate::loading::{copied, fit, opened_with};
 use crate::open_step::{OpenStep, next_label, take_label};
 use crate::saving::{Saved, journal_of};
-use crate::stepping::{forget, go_back, go_on};
-use bib_edit::{Edit, plan};
+use crate::stepping::{forget, go_back, go_on, go_on_if_open};
+use bib_data::Position;
+use bib_edit::{Edit, EditFault, plan, plan_at};
 use bib_scan::{Seq, Text};
 use bib_store::{Database, ItemList, Piece, compose};
 use journal_format::{
@@ -252,10 +254,54 @@ impl<L: ItemList> Session<L> {
             Ok(pieces) => pieces,
             Err(fault) => return Err(refused(fault)),
         };
-        if self.current.is_last() {
-            self.join(pieces)
-        } else {
-            self.add(pieces)
+        self.make(pieces)
+    }
+
+    /// Makes an edit as `edit` does, at this position in place of its own: an entry is added there, or moved there. It is refused
+    /// first if no entry has the key of the position, or several have it. It takes two look-ups more than `edit`.
+    pub fn edit_at(&mut self, position: &Position, edit: &Edit) -> Result<(), SessionFault>
+        requires { HasDepth edit.now }
+        ensures made { OnOk result (MakesEditAt position.now edit.now self.old self.new) }
+        ensures refused { IfErr result (λ fault. RefusesEditAt fault position.now edit.now self.old) }
+        ensures err { OnErr result (self.new ≡ self.old) }
+    {
+        let pieces = match plan_at(self.alloc, &self.database, position, edit) {
+            Ok(pieces) => pieces,
+            Err(fault) => return Err(refused(fault)),
+        };
+        self.make(pieces)
+    }
+
+    /// Puts this text in at this position, byte for byte, as a step of its own; where it follows a line of the file that is not
+    /// ended, a line's end is put before it. It forgets what could be made again. It is refused with 55 if a step is open; with 1
+    /// to 9 and a place of the text, if the text can't be opened by itself; with 35, 36, 34, 37, 38, 40 and 9 as `place_of` and
+    /// `plan_insertion` say; with 41 if there is no room for the step; and with 8 if a raw text would be too long. It takes time
+    /// and memory as opening the text and as `Database::splice` do. (dialect)
+    pub fn insert(&mut self, position: &Position, text: &[u8]) -> Result<(), SessionFault>
+        ensures inserted { OnOk result (Inserts position.now text.now self.old self.new) }
+        ensures refused { IfErr result (λ fault. RefusesInsertion position.now text.now self.old fault) }
+        ensures err { OnErr result (self.new ≡ self.old) }
+    {
+        if !self.current.is_none() {
+            return Err(SessionFault::StepOpen);
+        }
+        match insertion_of(self.alloc, &self.database, position, text) {
+            Ok(pieces) => self.put_in(pieces),
+            Err(fault) => Err(fault),
+        }
+    }
+
+    /// Makes the pieces of an insertion a step of their own, unless they make a raw text too long.
+    fn put_in(&mut self, pieces: Seq<Piece>) -> Result<(), SessionFault>
+        requires { self.old.current ≡ NoStep }
+        ensures made { OnOk result (MakesInsertion pieces self.old self.new) }
+        ensures refused { IfErr result (λ fault. RefusesPieces pieces self.old fault) }
+        ensures err { OnErr result (self.new ≡ self.old) }
+    {
+        match self.try_add(pieces) {
+            Ok(true) => Ok(()),
+            Ok(false) => Err(SessionFault::Refused(EditFault::TextTooLong)),
+            Err(fault) => Err(fault),
         }
     }
 
@@ -265,6 +311,23 @@ impl<L: ItemList> Session<L> {
     {
         if seeks_parts(edit) {
             self.database.note_parts();
+        }
+    }
+
+    /// Makes these pieces a step of their own, or one of the edits of the step that is open.
+    fn make(&mut self, pieces: Seq<Piece>) -> Result<(), SessionFault>
+        requires { IsAllowed pieces self.old.steps.present }
+        ensures made { OnOk result (MakesSteps self.old.current pieces self.old.steps self.new.steps) }
+        ensures current { OnOk result (self.new.current ≡ after_edit self.old.current) }
+        ensures room { OnOk result (LacksRoom self.old.current pieces self.old.steps → ⊥) }
+        ensures full { result ≡ Err JournalFull → LacksRoom self.old.current pieces self.old.steps }
+        ensures only { IfErr result (λ fault. (fault ≡ JournalFull) ⊎ (fault ≡ Memory)) }
+        ensures err { OnErr result (self.new ≡ self.old) }
+    {
+        if self.current.is_last() {
+            self.join(pieces)
+        } else {
+            self.add(pieces)
         }
     }
 
@@ -279,19 +342,41 @@ impl<L: ItemList> Session<L> {
         ensures only { IfErr result (λ fault. (fault ≡ JournalFull) ⊎ (fault ≡ Memory)) }
         ensures err { OnErr result (self.new ≡ self.old) }
     {
+        let leads = self.try_add(pieces)?;
+        if !leads {
+            unreachable!();
+        }
+        Ok(())
+    }
+
+    /// Makes these pieces a step of their own, if they lead to a file that can be opened. Otherwise nothing changes.
+    fn try_add(&mut self, pieces: Seq<Piece>) -> Result<bool, SessionFault>
+        requires { self.old.current ≢ LastStep }
+        ensures allowed { IfOk result (λ yes. IsTrue yes ↔ IsAllowed pieces self.old.steps.present) }
+        ensures added { IfOk result (λ yes. IsTrue yes → MakesSteps self.old.current pieces self.old.steps self.new.steps) }
+        ensures current { IfOk result (λ yes. IsTrue yes → self.new.current ≡ after_edit self.old.current) }
+        ensures same { IfOk result (λ yes. yes ≡ false → self.new ≡ self.old) }
+        ensures room { OnOk result (LacksRoom self.old.current pieces self.old.steps → ⊥) }
+        ensures full { result ≡ Err JournalFull → LacksRoom self.old.current pieces self.old.steps }
+        ensures only { IfErr result (λ fault. (fault ≡ JournalFull) ⊎ (fault ≡ Memory)) }
+        ensures err { OnErr result (self.new ≡ self.old) }
+    {
         let text_len = step_text_len(next_label(&self.current), pieces.as_slice());
         let len = self.past_len.saturating_add(text_len);
         if self.past.len() >= CHANGE_LIMIT || len > STEP_TEXTS_LIMIT {
             return Err(SessionFault::JournalFull);
         }
         self.past.reserve(1)?;
-        go_on(&mut self.database, pieces.as_slice())?;
+        let leads = go_on_if_open(&mut self.database, pieces.as_slice())?;
+        if !leads {
+            return Ok(false);
+        }
         let label = take_label(self.alloc, &mut self.current);
         self.past.push_reserved(Step { label, pieces });
         self.past_len = len;
         self.ends.clear();
         forget(&mut self.undone);
-        Ok(())
+        Ok(true)
     }
 
     /// Makes these pieces a part of the last step of the past.

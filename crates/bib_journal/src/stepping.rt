@@ -1,6 +1,6 @@
 //! Making a step and taking it back.
 
-ghost use Rattle.std.specs.Prelude.{◌≡◌, [], OnOk, OnErr};
+ghost use Rattle.std.specs.Prelude.{◌≡◌, ◌↔◌, [], false, IsTrue, IfOk, OnOk, OnErr};
 ghost use Rattle.bib_spec.specs.Pieces.{applied};
 ghost use Rattle.history_spec.specs.Steps.{IsAllowed, Leads, before};
 
@@ -13,6 +13,23 @@ pub(crate) fn forget(steps: &mut Vec<Step>)
     ensures { steps.new.items ≡ [] }
 {
     steps.clear();
+}
+
+/// Makes a step, if it leads to a file that can be opened. Otherwise nothing changes.
+pub(crate) fn go_on_if_open<L: ItemList>(
+    db: &mut Database<L>,
+    step: &[Piece],
+) -> Result<bool, AllocError>
+    ensures yes { IfOk result (λ yes. IsTrue yes ↔ IsAllowed step.now db.old) }
+    ensures on { IfOk result (λ yes. IsTrue yes → db.new ≡ applied step.now db.old) }
+    ensures no { IfOk result (λ yes. yes ≡ false → db.new ≡ db.old) }
+    ensures err { OnErr result (db.new ≡ db.old) }
+{
+    match db.splice(step) {
+        Ok(()) => Ok(true),
+        Err(StoreFault::BadSplice) => Ok(false),
+        Err(_) => Err(AllocError),
+    }
 }
 
 /// Makes a step that leads to a file.

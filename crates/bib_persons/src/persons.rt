@@ -1,13 +1,17 @@
 //! Lists of names, and the names in them that have too many commas.
 
-ghost use Rattle.std.specs.Prelude.{◌≡◌, ◌≤◌, [], map, IsTrue, IfOk};
+ghost use Rattle.std.specs.Prelude.{◌≡◌, ◌≤◌, [], length, map, IsTrue, IfOk};
 ghost use Rattle.std.specs.List.{count_by};
+ghost use Rattle.bib_spec.specs.Text.{Text};
 ghost use Rattle.bib_spec.specs.Texts.{field_text};
 ghost use Rattle.bib_persons.specs.Persons.{has_names, is_comma_byte, has_many_commas, refused_names};
 
 use bib_names::{NameFault, split_name, split_names};
 use bib_scan::{Seq, same_folded};
 use std::alloc::{AllocError, Global};
+
+/// How many bytes a run has at most: the count of its commas fits a byte.
+const RUN: usize = 255;
 
 /// Whether a field of this name has a list of names.
 pub fn has_names(name: &[u8]) -> bool
@@ -16,19 +20,40 @@ pub fn has_names(name: &[u8]) -> bool
     same_folded(name, b"author") || same_folded(name, b"editor")
 }
 
-/// How many commas there are.
+/// How many commas there are. They are counted run by run: while a count fits a byte, the processor counts many bytes at once.
 fn comma_count(text: &[u8]) -> usize
     ensures { result ≡ count_by is_comma_byte text.now }
 {
-    text.iter().filter(|byte| **byte == b',').count()
+    let mut count = 0;
+    let mut rest = text;
+    'runs: while rest.len() > RUN {
+        let (run, more) = rest.split_at(RUN);
+        count += usize::from(count_in_run(run));
+        rest = more;
+    }
+    count + usize::from(count_in_run(rest))
 }
 
-/// Whether a list of names whose raw text this is has so few commas that none of its names has too many: at most two. It takes
-/// time in the text's length, and no memory.
-pub fn has_few_commas(raw: &[u8]) -> bool
-    ensures { IsTrue result → refused_names (field_text raw.now) ≡ [] }
+/// How many bytes of a run are commas.
+fn count_in_run(run: &[u8]) -> u8
+    requires { length run.now ≤ 255 }
+    ensures { result ≡ count_by is_comma_byte run.now }
 {
-    comma_count(raw) <= 2
+    let mut count = 0;
+    'bytes: for byte in run {
+        if *byte == b',' {
+            count += 1;
+        }
+    }
+    count
+}
+
+/// Whether the text has so few commas that no list of names with at most as many has a name with too many: at most two. It takes
+/// time in the text's length, and no memory.
+pub fn has_few_commas(text: &[u8]) -> bool
+    ensures { IsTrue result → (raw : Text) → count_by is_comma_byte raw ≤ count_by is_comma_byte text.now → refused_names (field_text raw) ≡ [] }
+{
+    comma_count(text) <= 2
 }
 
 /// Whether a name has too many commas.

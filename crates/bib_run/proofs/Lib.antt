@@ -1,6 +1,7 @@
 -- ---- readers, writers and the end of a run
 pub mod Words
 pub mod WholeFile
+pub mod ReadRuns
 pub mod Progress
 pub mod Endings
 -- ---- sessions

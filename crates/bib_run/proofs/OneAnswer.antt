@@ -27,6 +27,10 @@ use Rattle.ris_format.specs.Entry.{are_balanced}
 use Rattle.bib_journal.specs.OneResult.{IsGood}
 use Rattle.bib_journal.specs.Session.{started}
 use Rattle.bib_journal.proofs.Moves.{none_open}
+use Rattle.bib_journal.proofs.OpenFaults.{SamePlace, not_read, one_read_fault, one_open_fault}
+use Rattle.bib_journal.proofs.SeveralRuns.{does_keeps_good}
+use Rattle.bib_data.specs.declared.position.Position.{Position}
+use Rattle.bib_run.specs.InsertAnswer.{IsGain, HasPutIn, HasInserted, inserted_answer, uninserted_line}
 use Rattle.bib_journal.proofs.OneResult.{one-result, one_saved, one_does, one_refusal, not_both}
 use Rattle.aux_text.specs.declared.placing.AuxKeys.{AuxKeys}
 use Rattle.bib_answers.specs.Names.{Spells, IsNamesAnswer, names_answer}
@@ -40,7 +44,7 @@ use Rattle.bib_run.specs.Turns.{turned_line}
 use Rattle.bib_run.specs.Log.{log_text, journal_left}
 use Rattle.bib_words.specs.declared.verbs.Question.TheVariants.{Check, Show, Entry, Cite, Labels, Json, NewKeys, Ris, Extract}
 use Rattle.bib_words.specs.declared.verbs.Verb.{Verb}
-use Rattle.bib_words.specs.declared.verbs.Verb.TheVariants.{Asks, Cat, Lint, Names, Explain, Edit, Import, Undo, Redo, Log, Forget}
+use Rattle.bib_words.specs.declared.verbs.Verb.TheVariants.{Asks, Cat, Lint, Names, Explain, Edit, Import, Insert, Merge, Diff, Undo, Redo, Log, Forget}
 use Rattle.bib_words.specs.Verbs.{verb_of}
 use Rattle.bib_run.specs.Answers.{Answers, IsEditsAnswer, IsWholeAnswer, question_answer, key_word, template_word}
 use Rattle.bib_run.specs.OneAnswer.{one_answer}
@@ -51,34 +55,6 @@ abbrev One : (Answer → Type 0) → Type 0
 One P = (a b : Answer) → P a → P b → a ≡ b
 
 -- ---- why a file is not opened
-
-not_read : (file : Text) (kind place : ℕ) (db : Reading) → kind ≢ 10 → length file ≤ file_limit → Reads file db → IsReadFault file kind place → ⊥
-not_read file kind place db told short reads (too_long over) = omega (arith, over, short)
-not_read file kind place db told short reads (no_reading fault at within failing wrong) = failing.fails (db, reads)
-not_read file kind place db told short reads (no_memory within) = told refl
-
-abbrev SamePlace : ℕ → ℕ → ℕ → ℕ → Type 0
-SamePlace kind place kind' place' = (kind ≡ kind') × (place ≡ place')
-
-one_read_fault : (file : Text) (kind place kind' place' : ℕ) → kind ≢ 10 → kind' ≢ 10 → IsReadFault file kind place → IsReadFault file kind' place' → SamePlace kind place kind' place'
-one_read_fault file kind place kind' place' told told' (too_long over) (too_long over') = (refl, refl)
-one_read_fault file kind place kind' place' told told' (too_long over) (no_reading fault at within failing wrong) = absurd (omega (arith, over, within))
-one_read_fault file kind place kind' place' told told' (too_long over) (no_memory within) = absurd (told' refl)
-one_read_fault file kind place kind' place' told told' (no_reading fault at within failing wrong) (too_long over) = absurd (omega (arith, over, within))
-one_read_fault file kind place kind' place' told told' (no_reading fault at within failing wrong) (no_reading fault' at' within' failing' wrong') =
-    let same : at ≡ at' = one_place HasReading file at at' failing failing' in
-    (ap fault_number (one_fault HasReadingWithin file at fault fault' wrong (subst (λ (p : ℕ). IsFaultAt HasReadingWithin file p fault') (sym same) wrong')), same)
-one_read_fault file kind place kind' place' told told' (no_reading fault at within failing wrong) (no_memory within') = absurd (told' refl)
-one_read_fault file kind place kind' place' told told' (no_memory within) other = absurd (told refl)
-
-one_open_fault : (file : Text) (kind place kind' place' : ℕ) → kind ≢ 10 → kind' ≢ 10 → IsOpenFault file kind place → IsOpenFault file kind' place' → SamePlace kind place kind' place'
-one_open_fault file kind place kind' place' told told' (inl fault) (inl fault') = one_read_fault file kind place kind' place' told told' fault fault'
-one_open_fault file kind place kind' place' told told' (inl fault) (inr text) = absurd (not_read file kind place text.db told text.short text.reads fault)
-one_open_fault file kind place kind' place' told told' (inr text) (inl fault) = absurd (not_read file kind' place' text.db told' text.short text.reads fault)
-one_open_fault file kind place kind' place' told told' (inr text) (inr text') = (
-  text.number ∙ sym text'.number,
-  same_Some place place' (sym text.first ∙ ap too_long_at (one_reading name_limit file text.db text'.db text.reads text'.reads) ∙ text'.first),
-)
 
 same_refusal : (kind place kind' place' : ℕ) → SamePlace kind place kind' place' → answer_of [] (refusal_line kind place) 1 ≡ answer_of [] (refusal_line kind' place') 1
 same_refusal kind place kind' place' same = ap₂ (λ (k p : ℕ). answer_of [] (refusal_line k p) 1) same.0 same.1
@@ -300,6 +276,33 @@ one_imported latex text s good x y (HasImported.unread fault told refuses is) (H
 one_imported latex text s good x y (HasImported.unread fault told refuses is) (HasImported.unread fault' told' refuses' is') =
     is ∙ ap (λ (f : ImportFault). answer_of [] (import_fault_line f) 1) (one_import_fault latex text fault fault' told told' refuses refuses') ∙ sym is'
 
+-- ---- what an insertion answers
+
+one_gain : (old new new' : Text) (added added' : ℕ) → IsOpenable old → IsOpenable new → new ≡ new' → IsGain added old new → IsGain added' old new' → added ≡ added'
+one_gain old new new' added added' opens opens' same gain gain' =
+    let db' = subst (λ (t : Text). Reads t opens'.0) same opens'.1.reads in
+    gain opens.0 opens.1.reads opens'.0 opens'.1.reads ∙ sym (gain' opens.0 opens.1.reads opens'.0 db')
+
+one_put : (at : Position) (text : Text) (s : SessionState) → IsGood s → One (HasPutIn at text s)
+one_put at text s good x y (HasPutIn.inserted closed saved added makes saves gain is) (HasPutIn.inserted closed' saved' added' makes' saves' gain' is') =
+    let same : closed ≡ closed' = one_does (request.Insert at text) s closed closed' good.0.present makes makes' in
+    let after : IsGood closed = does_keeps_good (request.Insert at text) s closed good makes in
+    let count : added ≡ added' = one_gain s.steps.present closed.steps.present closed'.steps.present added added' good.0.present after.0.present (ap (λ (t : SessionState). t.steps.present) same) gain gain' in
+    is ∙ ap (λ (n : ℕ). inserted_answer n saved) count ∙ ap (inserted_answer added') (saved_same closed closed' saved saved' same saves saves') ∙ sym is'
+one_put at text s good x y (HasPutIn.inserted closed saved added makes saves gain is) (HasPutIn.refused fault told refuses is') =
+    absurd (not_both (request.Insert at text) fault s closed good.0.present told refuses makes)
+one_put at text s good x y (HasPutIn.refused fault told refuses is) (HasPutIn.inserted closed saved added makes saves gain is') =
+    absurd (not_both (request.Insert at text) fault s closed good.0.present told refuses makes)
+one_put at text s good x y (HasPutIn.refused fault told refuses is) (HasPutIn.refused fault' told' refuses' is') =
+    is ∙ ap (λ (f : SessionFault). answer_of [] (uninserted_line f) 1) (one_refusal (request.Insert at text) fault fault' s good.0.present told told' refuses refuses') ∙ sym is'
+
+one_inserted : (words : List Text) (text : Text) (s : SessionState) → IsGood s → One (HasInserted words text s)
+one_inserted words text s good x y (HasInserted.asked at says has) (HasInserted.asked at' says' has') =
+    one_put at' text s good x y (subst (λ (p : Position). HasPutIn p text s x) (same_Some at at' (sym says ∙ says')) has) has'
+one_inserted words text s good x y (HasInserted.asked at says has) (HasInserted.no_position none is) = absurd (none-some at (sym none ∙ says))
+one_inserted words text s good x y (HasInserted.no_position none is) (HasInserted.asked at says has) = absurd (none-some at (sym none ∙ says))
+one_inserted words text s good x y (HasInserted.no_position none is) (HasInserted.no_position none' is') = is ∙ sym is'
+
 -- ---- all commands
 
 one_edits : (command : Command) (file : Text) (journal : Option Text) (input : Text) → One (IsEditsAnswer command file journal input)
@@ -315,68 +318,95 @@ one_whole : (command : Command) (file : Text) (journal : Option Text) (input : T
 one_whole command file journal input a b x y =
     x.whole ∙ ap (whole command.all_or_nothing) (one_edits command file journal input x.made y.made x.edits y.edits) ∙ sym y.whole
 
-one_of_verb : (verb : Verb) (command : Command) (file : Text) (journal : Option Text) (input : Text) → verb ≢ Explain → One (Answers verb command file journal input)
-one_of_verb (Asks question) command file journal input other = one_of_file (question_answer question command) file
-one_of_verb Cat command file journal input other = one_cat file
-one_of_verb Lint command file journal input other = one_lint (key_words command) command.cited (first_word command) file
-one_of_verb Names command file journal input other = one_names command.depth (key_word command) (template_word command) file
-one_of_verb Explain command file journal input other = absurd (other refl)
-one_of_verb Edit command file journal input other = one_whole command file journal input
-one_of_verb Import command file journal input other =
+one_of_verb : (verb : Verb) (command : Command) (file : Text) (journal : Option Text) (input : Text) → verb ≢ Explain → verb ≢ Diff → One (Answers verb command file journal input)
+one_of_verb (Asks question) command file journal input other undiffed = one_of_file (question_answer question command) file
+one_of_verb Cat command file journal input other undiffed = one_cat file
+one_of_verb Lint command file journal input other undiffed = one_lint (key_words command) command.cited (first_word command) file
+one_of_verb Names command file journal input other undiffed = one_names command.depth (key_word command) (template_word command) file
+one_of_verb Explain command file journal input other undiffed = absurd (other refl)
+one_of_verb Edit command file journal input other undiffed = one_whole command file journal input
+one_of_verb Import command file journal input other undiffed =
     one_session command.new_journal (AnswersInput (HasImported command.latex) input) file journal (λ s good. one_input (HasImported command.latex) input s (one_imported command.latex input s good))
-one_of_verb Undo command file journal input other = one_turned (codes "undone") request.Undo command.n file journal
-one_of_verb Redo command file journal input other = one_turned (codes "redone") request.Redo command.n file journal
-one_of_verb Log command file journal input other = one_log file journal
-one_of_verb Forget command file journal input other = one_forget file
+one_of_verb Insert command file journal input other undiffed =
+    one_session command.new_journal (AnswersInput (HasInserted (key_words command)) input) file journal
+    (λ s good. one_input (HasInserted (key_words command)) input s (one_inserted (key_words command) input s good))
+one_of_verb Diff command file journal input other undiffed = absurd (undiffed refl)
+one_of_verb Undo command file journal input other undiffed = one_turned (codes "undone") request.Undo command.n file journal
+one_of_verb Redo command file journal input other undiffed = one_turned (codes "redone") request.Redo command.n file journal
+one_of_verb Log command file journal input other undiffed = one_log file journal
+one_of_verb Forget command file journal input other undiffed = one_forget file
+one_of_verb Merge command file journal input other undiffed = λ a b is also. is ∙ sym also
 
-one_of_some : (verb : Option Verb) (command : Command) (file : Text) (journal : Option Text) (input : Text) → verb ≢ Some Explain
+one_of_some : (verb : Option Verb) (command : Command) (file : Text) (journal : Option Text) (input : Text) → verb ≢ Some Explain → verb ≢ Some Diff
     → One (λ answer. IsSomeAnd verb (λ v. Answers v command file journal input answer))
-one_of_some None command file journal input other = λ a b is also. absurd is
-one_of_some (Some verb) command file journal input other = one_of_verb verb command file journal input (λ e. other (ap Some e))
+one_of_some None command file journal input other undiffed = λ a b is also. absurd is
+one_of_some (Some verb) command file journal input other undiffed = one_of_verb verb command file journal input (λ e. other (ap Some e)) (λ e. undiffed (ap Some e))
 
--- ---- `explain`
+-- ---- `explain` and `diff`
+
+-- the last two commands of the list of all
+abbrev is_last : Option Verb → Bool
+is_last (Some Explain) = true
+is_last (Some Diff) = true
+is_last _ = false
+
+-- if a name is that of one of the last, it is not the name of a command before
+skip : (here : Bool) (verb : Verb) (rest : Option Verb) (last : Verb) → is_last (Some verb) ≡ false → is_last (Some last) ≡ true → (if here then Some verb else rest) ≡ Some last → rest ≡ Some last
+skip true verb rest last other is_last_one is = absurd (false≢true (sym other ∙ ap is_last is ∙ is_last_one))
+skip false verb rest last other is_last_one is = is
+
+-- the last two by their names
+abbrev of_last : Text → Option Verb
+of_last name = if bytes_eq name (codes "diff") then Some Diff else if bytes_eq name (codes "explain") then Some Explain else None
+
+among_last : (name : Text) (last : Verb) → is_last (Some last) ≡ true → verb_of name ≡ Some last → of_last name ≡ Some last
+among_last name last one is =
+    skip (bytes_eq name (codes "merge")) Merge _ last refl one
+    (skip (bytes_eq name (codes "insert")) Insert _ last refl one
+    (skip (bytes_eq name (codes "import")) Import _ last refl one
+    (skip (bytes_eq name (codes "extract")) (Asks Extract) _ last refl one
+    (skip (bytes_eq name (codes "ris")) (Asks Ris) _ last refl one
+    (skip (bytes_eq name (codes "forget")) Forget _ last refl one
+    (skip (bytes_eq name (codes "log")) Log _ last refl one
+    (skip (bytes_eq name (codes "redo")) Redo _ last refl one
+    (skip (bytes_eq name (codes "undo")) Undo _ last refl one
+    (skip (bytes_eq name (codes "edit")) Edit _ last refl one
+    (skip (bytes_eq name (codes "newkeys")) (Asks NewKeys) _ last refl one
+    (skip (bytes_eq name (codes "names")) Names _ last refl one
+    (skip (bytes_eq name (codes "json")) (Asks Json) _ last refl one
+    (skip (bytes_eq name (codes "labels")) (Asks Labels) _ last refl one
+    (skip (bytes_eq name (codes "cite")) (Asks Cite) _ last refl one
+    (skip (bytes_eq name (codes "entry")) (Asks Entry) _ last refl one
+    (skip (bytes_eq name (codes "show")) (Asks Show) _ last refl one
+    (skip (bytes_eq name (codes "lint")) Lint _ last refl one
+    (skip (bytes_eq name (codes "check")) (Asks Check) _ last refl one
+    (skip (bytes_eq name (codes "cat")) Cat _ last refl one
+    is)))))))))))))))))))
 
 abbrev is_explain : Option Verb → Bool
 is_explain (Some Explain) = true
 is_explain _ = false
 
--- if a name is that of `explain`, it is not the name of the command before
-skip : (here : Bool) (verb : Verb) (rest : Option Verb) → is_explain (Some verb) ≡ false → (if here then Some verb else rest) ≡ Some Explain → rest ≡ Some Explain
-skip true verb rest other is = absurd (false≢true (sym other ∙ ap is_explain is))
-skip false verb rest other is = is
+of_diff : (here there : Bool) → (if here then Some Diff else if there then Some Explain else None) ≡ Some Diff → here ≡ true
+of_diff true there is = refl
+of_diff false true is = absurd (false≢true (sym (ap is_explain is)))
+of_diff false false is = absurd (none-some Diff is)
 
-last : (here : Bool) → (if here then Some Explain else None) ≡ Some Explain → here ≡ true
-last true is = refl
-last false is = absurd (none-some Explain is)
+of_explain : (here there : Bool) → (if here then Some Diff else if there then Some Explain else None) ≡ Some Explain → there ≡ true
+of_explain true there is = absurd (false≢true (ap is_explain is))
+of_explain false true is = refl
+of_explain false false is = absurd (none-some Explain is)
 
--- only the name of `explain` names that command
+-- only their own names name these commands
+diff_named : (name : Text) → verb_of name ≡ Some Diff → name ≡ codes "diff"
+diff_named name is = eq-true name (codes "diff") (of_diff (bytes_eq name (codes "diff")) (bytes_eq name (codes "explain")) (among_last name Diff refl is))
+
 explain_named : (name : Text) → verb_of name ≡ Some Explain → name ≡ codes "explain"
-explain_named name is =
-    eq-true name (codes "explain")
-    (last (bytes_eq name (codes "explain"))
-    (skip (bytes_eq name (codes "import")) Import _ refl
-    (skip (bytes_eq name (codes "extract")) (Asks Extract) _ refl
-    (skip (bytes_eq name (codes "ris")) (Asks Ris) _ refl
-    (skip (bytes_eq name (codes "forget")) Forget _ refl
-    (skip (bytes_eq name (codes "log")) Log _ refl
-    (skip (bytes_eq name (codes "redo")) Redo _ refl
-    (skip (bytes_eq name (codes "undo")) Undo _ refl
-    (skip (bytes_eq name (codes "edit")) Edit _ refl
-    (skip (bytes_eq name (codes "newkeys")) (Asks NewKeys) _ refl
-    (skip (bytes_eq name (codes "names")) Names _ refl
-    (skip (bytes_eq name (codes "json")) (Asks Json) _ refl
-    (skip (bytes_eq name (codes "labels")) (Asks Labels) _ refl
-    (skip (bytes_eq name (codes "cite")) (Asks Cite) _ refl
-    (skip (bytes_eq name (codes "entry")) (Asks Entry) _ refl
-    (skip (bytes_eq name (codes "show")) (Asks Show) _ refl
-    (skip (bytes_eq name (codes "lint")) Lint _ refl
-    (skip (bytes_eq name (codes "check")) (Asks Check) _ refl
-    (skip (bytes_eq name (codes "cat")) Cat _ refl
-    is)))))))))))))))))))
+explain_named name is = eq-true name (codes "explain") (of_explain (bytes_eq name (codes "diff")) (bytes_eq name (codes "explain")) (among_last name Explain refl is))
 
 pub one-answer : one_answer
-one-answer command file journal input a b other is also =
+one-answer command file journal input a b other undiffed is also =
     is.shown
     ∙ ap (λ (s : Answer). shown command.print (kept_with command.no_journal s))
-    (one_of_some (verb_of command.name) command file journal input (λ e. other (explain_named command.name e)) is.stored also.stored is.answers also.answers)
+    (one_of_some (verb_of command.name) command file journal input (λ e. other (explain_named command.name e)) (λ e. undiffed (diff_named command.name e)) is.stored also.stored is.answers also.answers)
     ∙ sym also.shown

@@ -3,7 +3,7 @@ use Rattle.bib_run.proofs.Words.{◌≡◌, ◌≢◌, ℕ, Bool, true, false, �
 use Rattle.bib_run.proofs.Words.{KeptSteps, AddMany, Request, SessionFault, Unopened, BadJournal, JournalMismatch, Saved, Saves, SessionState, idle, Opens, IsOpened, RefusesOpen, Performs, HasTurned, one-opening, opened_is_sound, open_fault, Additions, Said, said_of, asked_by_words, Command, Answer}
 use Rattle.bib_run.proofs.Words.{IsUnopened, IsUnfit, OpensWith, judged_journal, bad_journal_line, mismatch_line, fault_line, outcome_after, AnswersSession, AnswersInput, HasEdited, HasEditedBy, HasEditedByWords, IsEditAnswer, IsWordsAnswer, changes_of, stop_line, fault_message, HasAdded}
 use Rattle.bib_run.proofs.Words.{HasImported, IsImportAnswer, IsTurnAnswer, IsLogAnswer, key_words, shown}
-use Rattle.std.proofs.Common.{suc, not, ◌&&◌, if◌then◌else◌, IsSomeAnd, ◌∷◌, unwrap_or, ◌⊎◌, ⊎_elim, eqb-true}
+use Rattle.std.proofs.Common.{option_and_then, suc, not, ◌&&◌, if◌then◌else◌, IsSomeAnd, ◌∷◌, unwrap_or, ◌⊎◌, ⊎_elim, eqb-true}
 use Rattle.std.specs.Option.{option_map_or}
 use Rattle.std.proofs.lemmas.Bool.{cases_Bool, cond-true, cond-false, and_parts}
 use Rattle.std.proofs.lemmas.List.Folds.{list_all-append}
@@ -23,7 +23,11 @@ use Rattle.bib_journal.proofs.EndedSessions.{ended_session, undone_all, redone_a
 use Rattle.bib_journal.proofs.KeptRecords.{all-keep, some-pass}
 use Rattle.bib_journal.proofs.SavedLoads.{open_refused}
 use Rattle.bib_script.specs.Parting.{words_of, lines_of}
-use Rattle.bib_script.specs.Script.{said_by, said_first, nothing_said, request_of, edit_of, group_of, end_of}
+use Rattle.bib_script.specs.Script.{said_by, said_first, nothing_said, request_of, position_of, fields_of, new_entry, adding, add_of, moving, move_of, edit_of, edit_asked, group_of, end_of}
+use Rattle.bib_data.specs.declared.edit.NewEntry.{NewEntry}
+use Rattle.bib_data.specs.declared.position.Position.{Position}
+use Rattle.bib_data.specs.declared.position.Position.TheVariants as position
+use Rattle.bib_run.specs.InsertAnswer.{HasPutIn, HasInserted, IsInsertAnswer}
 use Rattle.bib_script.specs.Words.{step_of, label_of_words}
 use Rattle.bib_words.specs.declared.verbs.Verb.{Verb}
 use Rattle.bib_words.specs.declared.verbs.Verb.TheVariants as verbs
@@ -31,13 +35,15 @@ use Rattle.bib_words.specs.Verbs.{verb_of, reads_journal}
 use Rattle.bib_run.specs.EditAnswer.{edits_in, taken_back, whole}
 use Rattle.bib_run.specs.Shown.{kept_with}
 use Rattle.bib_run.specs.Answers.{Answers, IsEditsAnswer, IsWholeAnswer}
-use Rattle.bib_run.specs.StoredRuns.{edits_asked, stored, OpensSession, AsksEdits, AsksAdditions, Requests, Asks, Accepts, a_run_is_a_session, Call, AreAccepted, runs_of_the_program_are_one_session, one_undo_leads_to_the_first_file, one_redo_leads_to_the_last_file, renames, runs_of_renamings_keep_every_record, IsStoredRun, a_refused_script_leaves_the_disk}
+use Rattle.bib_run.specs.StoredRuns.{edits_asked, stored, OpensSession, AsksEdits, AsksAdditions, AsksInsertion, Requests, Asks, Accepts, a_run_is_a_session, Call, AreAccepted, runs_of_the_program_are_one_session, one_undo_leads_to_the_first_file, one_redo_leads_to_the_last_file, renames, runs_of_renamings_keep_every_record, IsStoredRun, a_refused_script_leaves_the_disk}
 
 -- ---- scripts
 
 -- the request is an edit, or begins or ends a step
 abbrev is_scripted : Request → Bool
 is_scripted (request.Edit edit) = true
+is_scripted (request.Place position edit) = true
+is_scripted (request.Insert position text) = false
 is_scripted (request.Begin label) = true
 is_scripted request.End = true
 is_scripted request.Undo = false
@@ -67,14 +73,51 @@ end_scripted : (words : List Text) → IsScripted (end_of words)
 end_scripted [] = λ r e. ap is_scripted (sym (same_Some request.End r e))
 end_scripted (word ∷ words) = none_scripted
 
+joined_scripted : {X : Type 0} (f : X → Option Request) → ((x : X) → IsScripted (f x)) → (o : Option X) → IsScripted (option_and_then f o)
+joined_scripted f is None r e = absurd (none-some r e)
+joined_scripted f is (Some x) r e = is x r e
+
+adding_scripted : (at : Position) (entry : NewEntry) → is_scripted (adding at entry) ≡ true
+adding_scripted (position.Number n) entry = refl
+adding_scripted position.End entry = refl
+adding_scripted (position.Before key) entry = refl
+adding_scripted (position.After key) entry = refl
+
+add_scripted : (words : List Text) → IsScripted (add_of words)
+add_scripted [] = none_scripted
+add_scripted (a ∷ []) = none_scripted
+add_scripted (a ∷ b ∷ []) = none_scripted
+add_scripted (a ∷ b ∷ c ∷ words) =
+    joined_scripted (λ at. option_map (λ fields. adding at (new_entry b c fields)) (fields_of words))
+    (λ at. map_scripted (λ fields. adding at (new_entry b c fields)) (λ fields. adding_scripted at (new_entry b c fields)) (fields_of words)) (position_of a)
+
+moving_scripted : (key : Text) (at : Position) → is_scripted (moving key at) ≡ true
+moving_scripted key (position.Number n) = refl
+moving_scripted key position.End = refl
+moving_scripted key (position.Before other) = refl
+moving_scripted key (position.After other) = refl
+
+move_scripted : (words : List Text) → IsScripted (move_of words)
+move_scripted [] = none_scripted
+move_scripted (a ∷ []) = none_scripted
+move_scripted (a ∷ b ∷ []) = map_scripted (λ at. moving a at) (moving_scripted a) (position_of b)
+move_scripted (a ∷ b ∷ c ∷ words) = none_scripted
+
+edit_scripted : (words : List Text) → IsScripted (edit_asked words)
+edit_scripted [] = none_scripted
+edit_scripted (verb ∷ words) =
+    choice_scripted (bytes_eq verb (codes "add")) (add_of words) (if bytes_eq verb (codes "move") then move_of words else option_map request.Edit (edit_of verb words))
+    (add_scripted words)
+    (choice_scripted (bytes_eq verb (codes "move")) (move_of words) (option_map request.Edit (edit_of verb words))
+    (move_scripted words) (map_scripted request.Edit (λ x. refl) (edit_of verb words)))
+
 asked_scripted : (words : List Text) → IsScripted (request_of words)
 asked_scripted [] = none_scripted
 asked_scripted (verb ∷ words) =
     choice_scripted (bytes_eq verb (codes "group")) (group_of words)
-    (if bytes_eq verb (codes "end") then end_of words else option_map request.Edit (edit_of (verb ∷ words)))
+    (if bytes_eq verb (codes "end") then end_of words else edit_asked (verb ∷ words))
     (group_scripted words)
-    (choice_scripted (bytes_eq verb (codes "end")) (end_of words) (option_map request.Edit (edit_of (verb ∷ words)))
-    (end_scripted words) (map_scripted request.Edit (λ x. refl) (edit_of (verb ∷ words))))
+    (choice_scripted (bytes_eq verb (codes "end")) (end_of words) (edit_asked (verb ∷ words)) (end_scripted words) (edit_scripted (verb ∷ words)))
 
 abbrev said_on : ℕ → Bool → Option Request → Said → Said
 said_on n b asked rest = if b then rest else option_map_or (λ a. said_first n a rest) asked (nothing_said (Some n))
@@ -92,16 +135,19 @@ lines_scripted n (line ∷ lines) =
 
 -- the step that words say
 words_scripted : (words : List Text) (requests : List Request) → asked_by_words words ≡ Some requests → list_all is_scripted requests ≡ true
-words_scripted words requests is = of_step (edit_of words) is
+words_scripted words requests is = of_step (edit_asked words) (edit_scripted words) is
   where
-    of_step : (edit : Option Edit) → option_map (step_of (label_of_words words)) edit ≡ Some requests → list_all is_scripted requests ≡ true
-    of_step None none = absurd (none-some requests none)
-    of_step (Some edit) some = ap (list_all is_scripted) (sym (same_Some (step_of (label_of_words words) edit) requests some))
+    of_step : (edit : Option Request) → IsScripted edit → option_map (step_of (label_of_words words)) edit ≡ Some requests → list_all is_scripted requests ≡ true
+    of_step None scripted none = absurd (none-some requests none)
+    of_step (Some edit) scripted some =
+        ap (list_all is_scripted) (sym (same_Some (step_of (label_of_words words) edit) requests some)) ∙ ap (λ b. b && true) (scripted edit refl)
 
 -- where no edit is among such requests, nothing is changed
 no_edit_changes : (requests : List Request) (old new : SessionState) → list_all is_scripted requests ≡ true → edits_in requests ≡ 0 → DoesAll requests old new → new.steps ≡ old.steps
 no_edit_changes [] old new all none did = ap (λ (s : SessionState). s.steps) did
 no_edit_changes (request.Edit edit ∷ requests) old new all none did = absurd (omega (arith, none, sum_by-cons changes_of (request.Edit edit) requests))
+no_edit_changes (request.Place position edit ∷ requests) old new all none did = absurd (omega (arith, none, sum_by-cons changes_of (request.Place position edit) requests))
+no_edit_changes (request.Insert position text ∷ requests) old new all none did = absurd (false≢true all)
 no_edit_changes (request.Begin label ∷ requests) old new all none did =
     no_edit_changes requests did.0 new (and_parts true (list_all is_scripted requests) all).1 (omega (arith, none, sum_by-cons changes_of (request.Begin label) requests)) did.2 ∙ did.1.steps
 no_edit_changes (request.End ∷ requests) old new all none did =
@@ -327,6 +373,32 @@ import_run command input kept old new answer opens named (AnswersSession.answere
 import_run command input kept old new answer opens named (AnswersSession.unopened is) stores =
     absurd (not_refused_with command.new_journal old.file old.journal (idle kept) is.message (fits command.new_journal old.file old.journal kept opens) is.why)
 
+put_run : (command : Command) (input : Text) (kept : KeptSteps) (old new : OnDisk) (answer : Answer) (at : Position) → Opens old.file old.journal kept
+    → Asks command kept.present input (request.Insert at input ∷ []) → HasPutIn at input (idle kept) answer → new ≡ stored old answer.outcome → IsSession command input kept new
+put_run command input kept old new answer at opens asks (HasPutIn.inserted closed saved added makes saves gain is) stores =
+    leave_session command input kept old new (request.Insert at input ∷ []) 1 None closed saved 1 None opens asks nothing_told
+    (record { within = omega arith; did = (closed, makes, refl); stops = tt }) saves (λ one. absurd (omega (arith, one))) (stores ∙ ap (λ (x : Answer). stored old x.outcome) is)
+put_run command input kept old new answer at opens asks (HasPutIn.refused fault told refuses is) stores =
+    as_session command input kept new (request.Insert at input ∷ []) 0 (Some fault) (idle kept) asks (λ e. told (same_Some fault Memory e))
+    (record { within = omega arith; did = refl; stops = refuses }) (same_disk kept old new (stores ∙ ap (λ (x : Answer). stored old x.outcome) is) opens)
+
+text_run : (command : Command) (input : Text) (kept : KeptSteps) (old new : OnDisk) (answer : Answer) → Opens old.file old.journal kept → verb_of command.name ≡ Some verbs.Insert
+    → HasInserted (key_words command) input (idle kept) answer → new ≡ stored old answer.outcome → IsSession command input kept new
+text_run command input kept old new answer opens named (HasInserted.asked at says has) stores =
+    put_run command input kept old new answer at opens (asked verbs.Insert command kept.present input (request.Insert at input ∷ []) named (AsksInsertion.insertion at says)) has stores
+text_run command input kept old new answer opens named (HasInserted.no_position none is) stores =
+    asks_nothing command input kept old new (asked verbs.Insert command kept.present input [] named (AsksInsertion.no_position none)) opens (stores ∙ ap (λ (a : Answer). stored old a.outcome) is)
+
+insert_run : (command : Command) (input : Text) (kept : KeptSteps) (old new : OnDisk) (answer : Answer) → Opens old.file old.journal kept → verb_of command.name ≡ Some verbs.Insert
+    → IsInsertAnswer command.new_journal (key_words command) old.file old.journal input answer → new ≡ stored old answer.outcome → IsSession command input kept new
+insert_run command input kept old new answer opens named (AnswersSession.answered opened with (AnswersInput.within short has)) stores =
+    text_run command input kept old new answer opens named
+    (subst (λ (s : SessionState). HasInserted (key_words command) input s answer) (opened-with command.new_journal old.file old.journal kept opened opens with) has) stores
+insert_run command input kept old new answer opens named (AnswersSession.answered opened with (AnswersInput.too_long far told)) stores =
+    asks_nothing command input kept old new (asked verbs.Insert command kept.present input [] named (AsksInsertion.too_long far)) opens (stores ∙ ap (λ (a : Answer). stored old a.outcome) told)
+insert_run command input kept old new answer opens named (AnswersSession.unopened is) stores =
+    absurd (not_refused_with command.new_journal old.file old.journal (idle kept) is.message (fits command.new_journal old.file old.journal kept opens) is.why)
+
 log_run : (command : Command) (input : Text) (kept : KeptSteps) (old new : OnDisk) (answer : Answer) → Opens old.file old.journal kept → verb_of command.name ≡ Some verbs.Log
     → IsLogAnswer old.file old.journal answer → new ≡ stored old answer.outcome → IsSession command input kept new
 log_run command input kept old new answer opens named (IsLogAnswer.listed opened is told) stores =
@@ -365,8 +437,11 @@ answered_run (Some verbs.Lint) command input kept old new answer named reads ope
 answered_run (Some verbs.Names) command input kept old new answer named reads opens is stores = absurd (false≢true reads)
 answered_run (Some verbs.Explain) command input kept old new answer named reads opens is stores = absurd (false≢true reads)
 answered_run (Some verbs.Forget) command input kept old new answer named reads opens is stores = absurd (false≢true reads)
+answered_run (Some verbs.Merge) command input kept old new answer named reads opens is stores = absurd (false≢true reads)
+answered_run (Some verbs.Diff) command input kept old new answer named reads opens is stores = absurd (false≢true reads)
 answered_run (Some verbs.Edit) command input kept old new answer named reads opens is stores = whole_run command input kept old new answer opens named is stores
 answered_run (Some verbs.Import) command input kept old new answer named reads opens is stores = import_run command input kept old new answer opens named is stores
+answered_run (Some verbs.Insert) command input kept old new answer named reads opens is stores = insert_run command input kept old new answer opens named is stores
 answered_run (Some verbs.Undo) command input kept old new answer named reads opens is stores =
     turn_run command input kept old new answer (codes "undone") request.Undo opens (asked verbs.Undo command kept.present input (replicate command.n request.Undo) named refl) is stores
 answered_run (Some verbs.Redo) command input kept old new answer named reads opens is stores =

@@ -9,8 +9,9 @@ use Rattle.std.proofs.Math.Seq.{take-append_seam}
 use Rattle.bib_spec.specs.Fault.{too_long, no_memory}
 use Rattle.bib_run.specs.Transfers.{HasBytes}
 use Rattle.bib_data.specs.declared.request.Request.TheVariants as request
+use Rattle.bib_run.specs.InsertAnswer.{HasInserted}
 use Rattle.bib_words.specs.declared.verbs.Verb.{Verb}
-use Rattle.bib_words.specs.declared.verbs.Verb.TheVariants.{Asks, Cat, Lint, Names, Explain, Edit, Import, Undo, Redo, Log, Forget}
+use Rattle.bib_words.specs.declared.verbs.Verb.TheVariants.{Asks, Cat, Lint, Names, Explain, Edit, Import, Insert, Merge, Diff, Undo, Redo, Log, Forget}
 use Rattle.bib_words.specs.Verbs.{verb_of}
 use Rattle.bib_journal.proofs.LoadLemmas.{opened_short}
 use Rattle.aux_text.specs.declared.placing.AuxKeys.{AuxKeys}
@@ -21,6 +22,11 @@ use Rattle.bib_answers.specs.Lint as linting
 use Rattle.bib_answers.specs.Positions.{position, position_after}
 use Rattle.bib_answers.specs.declared.positions.Position.{Position}
 use Rattle.bib_answers.specs.Names.{IsNamesAnswer, names_answer}
+use Rattle.bib_diff.specs.declared.fault.DiffFault.{DiffFault}
+use Rattle.bib_diff.specs.declared.fault.DiffFault.TheVariants as diff_fault
+use Rattle.bib_diff.specs.Leading.{RefusesDiff}
+use Rattle.diff_answers.specs.Answers as comparing
+use Rattle.diff_answers.specs.Answers.{IsDiffAnswer}
 use Rattle.bib_run.specs.declared.reading.Sources.{Sources}
 use Rattle.bib_run.specs.Answers.{Answers, IsEditsAnswer, IsWholeAnswer, question_answer, key_word, template_word, script, words}
 use Rattle.bib_run.specs.Sources.{front, fronts}
@@ -163,6 +169,18 @@ IsWholeAnswer-long : (command : Command) (bytes : Text) (journal : Option Text) 
 IsWholeAnswer-long command bytes journal input answer long a =
     record { made = a.made; edits = IsEditsAnswer-long command bytes journal input a.made long a.edits; whole = a.whole }
 
+-- no script leads from a file that is too long
+RefusesDiff-long : (bytes new : Text) (fault : DiffFault) → file_limit < length bytes → RefusesDiff fault (take (file_limit + 1) bytes) new → RefusesDiff fault bytes new
+RefusesDiff-long bytes new (diff_fault.Old fault) long why = (why.0, IsOpenFault-long bytes fault.kind fault.place long why.1)
+RefusesDiff-long bytes new (diff_fault.New fault) long why = absurd (front_is_long bytes long why.0.1.short)
+RefusesDiff-long bytes new (diff_fault.NoScript key) long why = absurd (front_is_long bytes long why.0.1.short)
+RefusesDiff-long bytes new diff_fault.Memory long why = tt
+
+IsDiffAnswer-long : (name other bytes new : Text) (answer : Answer) → file_limit < length bytes → IsDiffAnswer name other (take (file_limit + 1) bytes) new answer → IsDiffAnswer name other bytes new answer
+IsDiffAnswer-long name other bytes new answer long (comparing.agree opens opens' agree is) = absurd (front_is_long bytes long opens.1.short)
+IsDiffAnswer-long name other bytes new answer long (comparing.differ request requests lines says leads differ is) = absurd (front_is_long bytes long leads.old_opens.1.short)
+IsDiffAnswer-long name other bytes new answer long (comparing.refused fault told why is) = comparing.refused fault told (RefusesDiff-long bytes new fault long why) is
+
 Answers-long : (verb : Verb) (command : Command) (bytes : Text) (journal : Option Text) (input : Text) (answer : Answer) → file_limit < length bytes
     → Answers verb command (take (file_limit + 1) bytes) journal input answer → Answers verb command bytes journal input answer
 Answers-long (Asks question) command bytes journal input answer long = AnswersFile-long (question_answer question command) bytes answer long
@@ -171,11 +189,14 @@ Answers-long Lint command bytes journal input answer long = IsLintAnswer-long (k
 Answers-long Names command bytes journal input answer long = IsNamesAnswer-long command.depth (key_word command) (template_word command) bytes answer long
 Answers-long Explain command bytes journal input answer long = λ given. given
 Answers-long Edit command bytes journal input answer long = IsWholeAnswer-long command bytes journal input answer long
+Answers-long Insert command bytes journal input answer long = AnswersSession-long command.new_journal (AnswersInput (HasInserted (key_words command)) input) bytes journal answer long
 Answers-long Import command bytes journal input answer long = AnswersSession-long command.new_journal (AnswersInput (HasImported command.latex) input) bytes journal answer long
+Answers-long Diff command bytes journal input answer long = IsDiffAnswer-long (first_word command) (key_word command) bytes input answer long
 Answers-long Undo command bytes journal input answer long = IsTurnAnswer-long (codes "undone") request.Undo command.n bytes journal answer long
 Answers-long Redo command bytes journal input answer long = IsTurnAnswer-long (codes "redone") request.Redo command.n bytes journal answer long
 Answers-long Log command bytes journal input answer long = IsLogAnswer-long bytes journal answer long
 Answers-long Forget command bytes journal input answer long = IsForgetAnswer-long bytes answer long
+Answers-long Merge command bytes journal input answer long = λ given. given
 
 -- an input that is too long is refused as its front is
 AnswersSession-input : (new_journal : Bool) (answers : Text → SessionState → Answer → Type 0) (file : Text) (journal : Option Text) (input : Text) (answer : Answer) → file_limit < length input
@@ -194,6 +215,18 @@ IsWholeAnswer-input : (command : Command) (file : Text) (journal : Option Text) 
 IsWholeAnswer-input command file journal input answer long a =
     record { made = a.made; edits = IsEditsAnswer-input command file journal input a.made long a.edits; whole = a.whole }
 
+-- nor to one that is
+RefusesDiff-input : (old bytes : Text) (fault : DiffFault) → file_limit < length bytes → RefusesDiff fault old (take (file_limit + 1) bytes) → RefusesDiff fault old bytes
+RefusesDiff-input old bytes (diff_fault.Old fault) long why = why
+RefusesDiff-input old bytes (diff_fault.New fault) long why = (why.0, why.1, IsOpenFault-long bytes fault.kind fault.place long why.2)
+RefusesDiff-input old bytes (diff_fault.NoScript key) long why = absurd (front_is_long bytes long why.1.1.short)
+RefusesDiff-input old bytes diff_fault.Memory long why = tt
+
+IsDiffAnswer-input : (name other old bytes : Text) (answer : Answer) → file_limit < length bytes → IsDiffAnswer name other old (take (file_limit + 1) bytes) answer → IsDiffAnswer name other old bytes answer
+IsDiffAnswer-input name other old bytes answer long (comparing.agree opens opens' agree is) = absurd (front_is_long bytes long opens'.1.short)
+IsDiffAnswer-input name other old bytes answer long (comparing.differ request requests lines says leads differ is) = absurd (front_is_long bytes long leads.new_opens.1.short)
+IsDiffAnswer-input name other old bytes answer long (comparing.refused fault told why is) = comparing.refused fault told (RefusesDiff-input old bytes fault long why) is
+
 Answers-input : (verb : Verb) (command : Command) (file : Text) (journal : Option Text) (input : Text) (answer : Answer) → file_limit < length input
     → Answers verb command file journal (take (file_limit + 1) input) answer → Answers verb command file journal input answer
 Answers-input (Asks question) command file journal input answer long = λ given. given
@@ -202,11 +235,14 @@ Answers-input Lint command file journal input answer long = λ given. given
 Answers-input Names command file journal input answer long = λ given. given
 Answers-input Explain command file journal input answer long = λ given. given
 Answers-input Edit command file journal input answer long = IsWholeAnswer-input command file journal input answer long
+Answers-input Insert command file journal input answer long = AnswersSession-input command.new_journal (HasInserted (key_words command)) file journal input answer long
 Answers-input Import command file journal input answer long = AnswersSession-input command.new_journal (HasImported command.latex) file journal input answer long
+Answers-input Diff command file journal input answer long = IsDiffAnswer-input (first_word command) (key_word command) file input answer long
 Answers-input Undo command file journal input answer long = λ given. given
 Answers-input Redo command file journal input answer long = λ given. given
 Answers-input Log command file journal input answer long = λ given. given
 Answers-input Forget command file journal input answer long = λ given. given
+Answers-input Merge command file journal input answer long = λ given. given
 
 -- what holds of the front of a text holds of the text, if it holds of a text that is longer than the limit
 by_front : (P : Text → Type 0) (bytes : Text) → (file_limit < length bytes → P (front bytes) → P bytes) → P (front bytes) → P bytes

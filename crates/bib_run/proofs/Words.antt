@@ -8,7 +8,7 @@ pub use Rattle.bib_answers.specs.Positions.{position_of}
 pub use Rattle.bib_answers.specs.declared.answers.Answer.{Answer}
 pub use Rattle.bib_data.specs.declared.edit.Edit.TheVariants.{AddMany}
 pub use Rattle.bib_data.specs.declared.request.Request.{Request}
-pub use Rattle.bib_journal.proofs.SavedLoads.{open_fault}
+pub use Rattle.bib_journal.proofs.OpenFaults.{open_fault}
 pub use Rattle.bib_journal.proofs.SeveralRuns.{one-opening, opened_is_sound}
 pub use Rattle.bib_journal.specs.Loading.{Saves}
 pub use Rattle.bib_journal.specs.OpenSteps.{SessionState, idle}

@@ -6,7 +6,7 @@ use Rattle.bib_words.specs.declared.commands.Command.{Command}
 use Rattle.bib_words.specs.declared.verbs.Question.{Question}
 use Rattle.bib_words.specs.declared.verbs.Question.TheVariants.{Check, Show, Entry, Cite, Labels, Json, NewKeys, Ris, Extract}
 use Rattle.bib_words.specs.declared.verbs.Verb.{Verb}
-use Rattle.bib_words.specs.declared.verbs.Verb.TheVariants.{Asks, Cat, Lint, Names, Explain, Edit, Undo, Redo, Log, Forget, Import}
+use Rattle.bib_words.specs.declared.verbs.Verb.TheVariants.{Asks, Cat, Lint, Names, Explain, Edit, Undo, Redo, Log, Forget, Import, Insert, Merge, Diff}
 use Rattle.bib_words.specs.Verbs.{verb_of}
 use Rattle.bib_answers.specs.declared.answers.Answer.{Answer}
 use Rattle.bib_answers.specs.Cat.{IsCatAnswer}
@@ -26,15 +26,18 @@ use Rattle.bib_answers.specs.Names.{IsNamesAnswer}
 use Rattle.bib_data.specs.declared.request.Request.TheVariants as request
 use Rattle.bib_run.specs.EditAnswer.{IsEditAnswer, IsWordsAnswer, whole}
 use Rattle.bib_run.specs.ImportAnswer.{IsImportAnswer}
+use Rattle.bib_run.specs.InsertAnswer.{IsInsertAnswer}
 use Rattle.bib_run.specs.Turns.{IsTurnAnswer}
 use Rattle.bib_run.specs.Log.{IsLogAnswer, IsForgetAnswer}
+use Rattle.bib_run.specs.Apart.{apart_answer}
 use Rattle.bib_run.specs.Shown.{shown, kept_with}
+use Rattle.diff_answers.specs.Answers.{IsDiffAnswer}
 
--- the first word: the name of the file, or for `explain` the fault
+-- the first word: the name of the file, for `diff` of the old one, or for `explain` the fault
 abbrev pub first_word : Command → Text
 first_word command = slice_index_or command.words 0 []
 
--- the word after the file
+-- the word after the file, for `diff` the name of the new one
 abbrev pub key_word : Command → Text
 key_word command = slice_index_or command.words 1 []
 
@@ -78,10 +81,13 @@ Answers Names command file journal input = IsNamesAnswer command.depth (key_word
 Answers Explain command file journal input = IsExplainAnswer (first_word command)
 Answers Edit command file journal input = IsWholeAnswer command file journal input
 Answers Import command file journal input = IsImportAnswer command.latex command.new_journal file journal input
+Answers Insert command file journal input = IsInsertAnswer command.new_journal (key_words command) file journal input
+Answers Diff command file journal input = IsDiffAnswer (first_word command) (key_word command) file input
 Answers Undo command file journal input = IsTurnAnswer (codes "undone") request.Undo command.n file journal
 Answers Redo command file journal input = IsTurnAnswer (codes "redone") request.Redo command.n file journal
 Answers Log command file journal input = IsLogAnswer file journal
 Answers Forget command file journal input = IsForgetAnswer file
+Answers Merge command file journal input = λ answer. answer ≡ apart_answer
 
 -- the answer of a command of the program, when what is new is to be stored
 abbrev pub IsStoredAnswer : Command → Text → Option Text → Text → Answer → Type 0

@@ -45,6 +45,8 @@ applied_line done = codes "applied " ++ (decimal done ++ codes "\n")
 -- how many changes a request is: an edit is one; the begin and the end of a step are none
 abbrev pub changes_of : Request → ℕ
 changes_of (request.Edit edit) = 1
+changes_of (request.Place position edit) = 1
+changes_of (request.Insert position text) = 1
 changes_of other = 0
 
 -- how many edits there are among the requests

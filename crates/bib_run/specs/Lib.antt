@@ -12,8 +12,10 @@ pub mod Inputs
 pub mod Shown
 pub mod EditAnswer
 pub mod ImportAnswer
+pub mod InsertAnswer
 pub mod Turns
 pub mod Log
+pub mod Apart
 pub mod Ris
 pub mod StoredRuns
 pub mod OneAnswer

@@ -30,6 +30,13 @@ pub data IsRun (command : Command) (old new : TapsView) (outcome : Outcome) : Ty
   -- the sources were not read, and nothing was written
   unread : EndsUnread old.sources new.sources outcome → new.out ≡ old.out → IsRun command old new outcome
 
+-- How a run of a command over sources that were read before ends, by the tap of its output before and after it, and its outcome. (dialect)
+pub data IsRunOver (command : Command) (bytes : Sources) (old new : TapView) (outcome : Outcome) : Type 0 where
+  -- the command's answer to these bytes was written
+  answered : (answer : Answer) → IsAnswer command bytes.file bytes.journal bytes.input answer → IsWritten answer old new outcome → IsRunOver command bytes old new outcome
+  -- memory ran out, and nothing was written
+  unanswered : new ≡ old → outcome ≡ outcome_of [] 4 → IsRunOver command bytes old new outcome
+
 -- a run of the command over new taps: of a file and a journal that tell these bytes, and of some input and some output
 pub record RanOver (command : Command) (file : Option Text) (journal : Option (Option Text)) (outcome : Outcome) : Type 0 where
   pub input : Option Text

@@ -22,11 +22,13 @@ use Rattle.bib_script.specs.Script.{said_of}
 use Rattle.bib_script.specs.Words.{asked_by_words}
 use Rattle.bib_words.specs.declared.commands.Command.{Command}
 use Rattle.bib_words.specs.declared.verbs.Verb.{Verb}
-use Rattle.bib_words.specs.declared.verbs.Verb.TheVariants.{Edit, Undo, Redo, Log, Import}
+use Rattle.bib_words.specs.declared.verbs.Verb.TheVariants.{Edit, Undo, Redo, Log, Import, Insert}
 use Rattle.bib_words.specs.Verbs.{verb_of}
 use Rattle.bib_words.specs.Command.{ReadsJournal}
 use Rattle.bib_answers.specs.declared.answers.Outcome.{Outcome}
 use Rattle.bib_answers.specs.declared.answers.Answer.{Answer}
+use Rattle.bib_data.specs.declared.position.Position.{Position}
+use Rattle.bib_run.specs.InsertAnswer.{position_asked}
 use Rattle.bib_run.specs.Answers.{IsAnswer, key_words}
 
 -- ---- what is stored
@@ -73,11 +75,18 @@ pub data AsksAdditions (latex : Bool) (present input : Text) : List Request → 
   no_text : (fault : ImportFault) → fault ≢ import_fault.Memory → RefusesImport latex fault input → AsksAdditions latex present input []
   too_long : file_limit < length input → AsksAdditions latex present input []
 
--- The requests of each command to a session with this present file: those of `edit` and `import`; `n` undos or redos. `log`
+-- the requests of `insert`: one insertion of its input, or none if its words say no position or its input is too long
+pub data AsksInsertion (words : List Text) (input : Text) : List Request → Type 0 where
+  insertion : (at : Position) → position_asked words ≡ Some at → AsksInsertion words input (request.Insert at input ∷ [])
+  no_position : position_asked words ≡ None → AsksInsertion words input []
+  too_long : file_limit < length input → AsksInsertion words input []
+
+-- The requests of each command to a session with this present file: those of `edit`, `import` and `insert`; `n` undos or redos. `log`
 -- requests nothing, and the other commands open no session.
 abbrev pub Requests : Verb → Command → Text → Text → List Request → Type 0
 Requests Edit command present input = AsksEdits command input
 Requests Import command present input = AsksAdditions command.latex present input
+Requests Insert command present input = AsksInsertion (key_words command) input
 Requests Undo command present input = λ requests. requests ≡ replicate command.n request.Undo
 Requests Redo command present input = λ requests. requests ≡ replicate command.n request.Redo
 Requests Log command present input = λ requests. requests ≡ []

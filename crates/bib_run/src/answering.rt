@@ -10,7 +10,9 @@ ghost use Rattle.bib_run.specs.Shown.{printed, shown, without_journal, kept_with
 use crate::commands::edit::{answer_edit, answer_words, whole};
 use crate::commands::explain::answer_explain;
 use crate::commands::import::answer_import;
+use crate::commands::insert::answer_insert;
 use crate::commands::log::{answer_forget, answer_log};
+use crate::commands::merge::answer_apart;
 use crate::commands::ris::answer_ris;
 use crate::commands::turning::{answer_redo, answer_undo};
 use crate::reading::Sources;
@@ -20,6 +22,7 @@ use bib_answers::{
 };
 use bib_scan::Text;
 use bib_words::{Command, Question, Verb};
+use diff_answers::answer_diff;
 use std::alloc::{AllocError, Global};
 
 /// The command's answer to the bytes of its sources. It keeps the file once, where it was read. It reads and writes
@@ -161,7 +164,7 @@ fn answer_verb(
         Verb::Lint => {
             let ignored = command.words_after_file();
             let cited = command.cited.as_slice();
-            answer_lint(alloc, command.word(0), file.as_slice(), ignored, cited)
+            answer_lint(alloc, command.word(0), file, ignored, cited)
         }
         Verb::Names => {
             let (key, template) = (command.word(1), command.word(2));
@@ -170,10 +173,19 @@ fn answer_verb(
         Verb::Explain => answer_explain(alloc, command.word(0)),
         Verb::Edit => answer_whole(alloc, command, file, journal, input),
         Verb::Import => answer_import(alloc, file, journal, new_journal, input, command.latex),
+        Verb::Insert => {
+            let words = command.words_after_file();
+            answer_insert(alloc, file, journal, new_journal, words, input)
+        }
+        Verb::Diff => {
+            let (old, new) = (command.word(0), command.word(1));
+            answer_diff(alloc, old, new, file.as_slice(), input)
+        }
         Verb::Undo => answer_undo(alloc, file, journal, command.n as usize),
         Verb::Redo => answer_redo(alloc, file, journal, command.n as usize),
         Verb::Log => answer_log(alloc, file, journal),
         Verb::Forget => answer_forget(alloc, file),
+        Verb::Merge => answer_apart(alloc),
     }
 }
 

@@ -3,6 +3,8 @@
 pub mod edit;
 pub mod explain;
 pub mod import;
+pub mod insert;
 pub mod log;
+pub mod merge;
 pub mod ris;
 pub mod turning;

@@ -4,8 +4,7 @@ ghost use Rattle.std.specs.Prelude.{◌≡◌, option_map};
 ghost use Rattle.bib_words.specs.Command.{IsCommand, ReadsJournal, TakesInput};
 ghost use Rattle.bib_run.specs.Lent.{held_before, held_after};
 ghost use Rattle.bib_run.specs.Views.{view_of, held};
-ghost use Rattle.bib_run.specs.Sources.{SourcesView, HasRead};
-ghost use Rattle.bib_run.specs.Runs.{IsRun, taps};
+ghost use Rattle.bib_run.specs.Runs.{IsRun, IsRunOver, taps};
 
 use crate::Tap;
 use crate::answering::answer;
@@ -67,21 +66,21 @@ fn run_beside<F: Read, J: Read, I: Read, W: Write>(
     ensures input { ¬ TakesInput command.now → input.new ≡ input.old }
 {
     match read_beside(alloc, command, file, has_journal, journal, input) {
-        Ok(sources) => run_over(alloc, command, sources, out),
+        Ok(sources) => run_read(alloc, command, sources, out),
         Err(outcome) => outcome,
     }
 }
 
-/// Writes what the command answers to the sources that were read.
-fn run_over<W: Write>(
+/// Runs a command over sources that the caller has read, as the two files of `diff`, and its output. Of each no more is needed than
+/// one byte past its limit. It makes interrupted calls again, up to 100 times. It runs out of memory only before anything is written.
+pub fn run_read<W: Write>(
     alloc: Global,
     command: &Command,
     sources: Sources,
     out: &mut Tap<W>,
 ) -> Outcome
     requires { IsCommand command.now }
-    ensures { (old new : SourcesView) → HasRead command.now old new sources
-        → IsRun command.now (record { sources = old; out = view_of W.contents out.old }) (record { sources = new; out = view_of W.contents out.new }) result }
+    ensures { IsRunOver command.now sources (view_of W.contents out.old) (view_of W.contents out.new) result }
 {
     match answer(alloc, command, sources) {
         Ok(answer) => write_answer(alloc, answer, out),

@@ -4,12 +4,12 @@ ghost use Rattle.bib_run.specs.OneAnswer.{one_answer};
 ghost use Rattle.bib_run.specs.StoredRuns.{a_run_is_a_session, runs_of_the_program_are_one_session, one_undo_leads_to_the_first_file, one_redo_leads_to_the_last_file, runs_of_renamings_keep_every_record, a_refused_script_leaves_the_disk};
 
 /// The bytes of its file, of its journal and of its input determine the answer of a command, except `explain`, whose
-/// pages are data.
+/// pages are data, and `diff`, whose script is one of those that lead from file to file.
 pub fn a_command_has_one_answer()
     ensures { one_answer }
 {}
 
-/// Runs of `edit`, `import`, `undo`, `redo` and `log` over a file and its journal, each over what the run before left,
+/// Runs of `edit`, `import`, `insert`, `undo`, `redo` and `log` over a file and its journal, each over what the run before left,
 /// are one session that does the requests that each run accepts, whatever else was refused. So one `undo` of all
 /// changes leads to the first file, byte for byte, one `redo` leads to the last file, and renamings keep every record.
 pub fn runs_of_the_program_are_one_session()

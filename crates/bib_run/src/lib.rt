@@ -20,7 +20,7 @@ pub use bib_answers::{Answer, Outcome};
 pub use bib_taps::Tap;
 pub use bib_words::Command;
 pub use commands::ris::ris_in;
-pub use engine::run;
+pub use engine::{run, run_read};
 pub use laws::{
     a_command_has_one_answer, a_refused_script_leaves_the_disk, runs_of_the_program_are_one_session,
 };

@@ -1,16 +1,21 @@
 -- What lines ask for has depths of 1 to 8.
-use Rattle.std.proofs.Common.{◌≡◌, ◌-◌, ◌&&◌, nat_le, Bool, true, false, cond, List, [], ◌∷◌, Option, Some, None, IfSome, option_map, option_and_then, bytes_eq, codes, refl, subst, arith}
+use Rattle.std.proofs.Common.{All, ◌≡◌, ◌-◌, ◌&&◌, nat_le, Bool, true, false, cond, List, [], ◌∷◌, Option, Some, None, IfSome, option_map, option_and_then, bytes_eq, codes, refl, subst, arith}
 use Rattle.std.proofs.lemmas.Bool.{and_parts, leb-true}
+use Rattle.std.proofs.lemmas.List.Elements.{All-cons, All-nil}
 use Rattle.bib_spec.specs.Text.{Text}
 use Rattle.bib_spec.specs.Records.{IsDepth}
 use Rattle.bib_data.specs.Depths.{HasDepth, AsksWithDepth}
 use Rattle.bib_data.specs.declared.edit.Edit.{Edit}
-use Rattle.bib_data.specs.declared.edit.Edit.TheVariants.{AddEntry, MoveEntry, RegenerateKeys}
+use Rattle.bib_data.specs.declared.edit.NewEntry.{NewEntry}
+use Rattle.bib_data.specs.declared.position.Position.{Position}
+use Rattle.bib_data.specs.declared.position.Position.TheVariants.{Number, End, Before, After}
+use Rattle.bib_data.specs.declared.edit.Edit.TheVariants.{RegenerateKeys}
 use Rattle.bib_data.specs.declared.label.Label.{Label}
 use Rattle.bib_data.specs.declared.request.Request.{Request}
 use Rattle.bib_data.specs.declared.request.Request.TheVariants as request
 use Rattle.history_spec.specs.Steps.{label_of}
-use Rattle.bib_script.specs.Script.{number_of, fields_of, new_entry, set_of, drop_of, add_of, remove_of, move_of, set_type_of, rename_key_of, rename_macro_of, inline_of, introduce_of, depth_of, regenerate_of, renaming_of, edit_of, group_of, end_of, request_of}
+use Rattle.bib_script.specs.Script.{position_of, fields_of, new_entry, set_of, drop_of, adding, add_of, remove_of, moving, move_of, set_type_of, rename_key_of, rename_macro_of, inline_of, introduce_of, depth_of, regenerate_of, renaming_of, edit_of, edit_asked, group_of, end_of, request_of}
+use Rattle.bib_script.specs.Words.{step_of}
 
 -- the edit, if there is one, has a depth of 1 to 8, or none
 abbrev Fits : Option Edit → Type 0
@@ -19,14 +24,6 @@ Fits edit = IfSome edit HasDepth
 either : (b : Bool) (x y : Option Edit) → Fits x → Fits y → Fits (cond b x y)
 either true x y first second = first
 either false x y first second = second
-
-mapped : {X : Type 0} (f : X → Edit) (o : Option X) → ((x : X) → HasDepth (f x)) → Fits (option_map f o)
-mapped f None each = tt
-mapped f (Some x) each = each x
-
-joined : {X : Type 0} (f : X → Option Edit) (o : Option X) → ((x : X) → Fits (f x)) → Fits (option_and_then f o)
-joined f None each = tt
-joined f (Some x) each = each x
 
 -- ---- the words of each edit
 
@@ -43,23 +40,10 @@ drop-fits (a ∷ []) = tt
 drop-fits (a ∷ b ∷ []) = tt
 drop-fits (a ∷ b ∷ c ∷ words) = tt
 
-add-fits : (words : List Text) → Fits (add_of words)
-add-fits [] = tt
-add-fits (a ∷ []) = tt
-add-fits (a ∷ b ∷ []) = tt
-add-fits (a ∷ b ∷ c ∷ words) =
-    joined (λ n. option_map (λ fields. AddEntry n (new_entry b c fields)) (fields_of words)) (number_of a) (λ n. mapped (λ fields. AddEntry n (new_entry b c fields)) (fields_of words) (λ fields. tt))
-
 remove-fits : (words : List Text) → Fits (remove_of words)
 remove-fits [] = tt
 remove-fits (a ∷ []) = tt
 remove-fits (a ∷ b ∷ words) = tt
-
-move-fits : (words : List Text) → Fits (move_of words)
-move-fits [] = tt
-move-fits (a ∷ []) = tt
-move-fits (a ∷ b ∷ []) = mapped (MoveEntry a) (number_of b) (λ n. tt)
-move-fits (a ∷ b ∷ c ∷ words) = tt
 
 set_type-fits : (words : List Text) → Fits (set_type_of words)
 set_type-fits [] = tt
@@ -121,15 +105,12 @@ renaming-fits verb words =
     (either (bytes_eq verb (codes "introduce")) _ _ (introduce-fits words)
     (either (bytes_eq verb (codes "regenerate")) _ _ (regenerate-fits words) tt))))
 
-edit-fits : (words : List Text) → IfSome (edit_of words) HasDepth
-edit-fits [] = tt
-edit-fits (verb ∷ words) =
+edit-fits : (verb : Text) (words : List Text) → Fits (edit_of verb words)
+edit-fits verb words =
     either (bytes_eq verb (codes "set")) _ _ (set-fits words)
     (either (bytes_eq verb (codes "drop")) _ _ (drop-fits words)
-    (either (bytes_eq verb (codes "add")) _ _ (add-fits words)
     (either (bytes_eq verb (codes "remove")) _ _ (remove-fits words)
-    (either (bytes_eq verb (codes "move")) _ _ (move-fits words)
-    (either (bytes_eq verb (codes "set-type")) _ _ (set_type-fits words) (renaming-fits verb words))))))
+    (either (bytes_eq verb (codes "set-type")) _ _ (set_type-fits words) (renaming-fits verb words))))
 
 -- ---- the request of a line
 
@@ -140,9 +121,50 @@ either-asks : (b : Bool) (x y : Option Request) → Asks x → Asks y → Asks (
 either-asks true x y first second = first
 either-asks false x y first second = second
 
-edit-asks : (edit : Option Edit) → Fits edit → Asks (option_map request.Edit edit)
-edit-asks None fits = tt
-edit-asks (Some edit) fits = fits
+one-asks : (edit : Option Edit) → Fits edit → Asks (option_map request.Edit edit)
+one-asks None fits = tt
+one-asks (Some edit) fits = fits
+
+mapped : {X : Type 0} (f : X → Request) (o : Option X) → ((x : X) → AsksWithDepth (f x)) → Asks (option_map f o)
+mapped f None each = tt
+mapped f (Some x) each = each x
+
+joined : {X : Type 0} (f : X → Option Request) (o : Option X) → ((x : X) → Asks (f x)) → Asks (option_and_then f o)
+joined f None each = tt
+joined f (Some x) each = each x
+
+adding-asks : (position : Position) (entry : NewEntry) → AsksWithDepth (adding position entry)
+adding-asks (Number n) entry = tt
+adding-asks End entry = tt
+adding-asks (Before key) entry = tt
+adding-asks (After key) entry = tt
+
+add-asks : (words : List Text) → Asks (add_of words)
+add-asks [] = tt
+add-asks (a ∷ []) = tt
+add-asks (a ∷ b ∷ []) = tt
+add-asks (a ∷ b ∷ c ∷ words) =
+    joined (λ position. option_map (λ fields. adding position (new_entry b c fields)) (fields_of words)) (position_of a)
+    (λ position. mapped (λ fields. adding position (new_entry b c fields)) (fields_of words) (λ fields. adding-asks position (new_entry b c fields)))
+
+moving-asks : (key : Text) (position : Position) → AsksWithDepth (moving key position)
+moving-asks key (Number n) = tt
+moving-asks key End = tt
+moving-asks key (Before other) = tt
+moving-asks key (After other) = tt
+
+move-asks : (words : List Text) → Asks (move_of words)
+move-asks [] = tt
+move-asks (a ∷ []) = tt
+move-asks (a ∷ b ∷ []) = mapped (moving a) (position_of b) (moving-asks a)
+move-asks (a ∷ b ∷ c ∷ words) = tt
+
+-- what words ask for has a depth of 1 to 8, or none
+pub edit-asks : (words : List Text) → Asks (edit_asked words)
+edit-asks [] = tt
+edit-asks (verb ∷ words) =
+    either-asks (bytes_eq verb (codes "add")) _ _ (add-asks words)
+    (either-asks (bytes_eq verb (codes "move")) _ _ (move-asks words) (one-asks (edit_of verb words) (edit-fits verb words)))
 
 group-asks : (words : List Text) → Asks (group_of words)
 group-asks [] = tt
@@ -161,8 +183,14 @@ request-asks : (words : List Text) → Asks (request_of words)
 request-asks [] = tt
 request-asks (verb ∷ words) =
     either-asks (bytes_eq verb (codes "group")) _ _ (group-asks words)
-    (either-asks (bytes_eq verb (codes "end")) _ _ (end-asks words) (edit-asks (edit_of (verb ∷ words)) (edit-fits (verb ∷ words))))
+    (either-asks (bytes_eq verb (codes "end")) _ _ (end-asks words) (edit-asks (verb ∷ words)))
 
 -- the request of a line has a depth of 1 to 8, or none
 pub said-asks : (words : List Text) (asked : Request) → request_of words ≡ Some asked → AsksWithDepth asked
 said-asks words asked is = subst (λ (o : Option Request). IfSome o AsksWithDepth) is (request-asks words)
+
+-- the step of what words ask for has depths of 1 to 8
+pub step-asks : (words : List Text) (label : Text) (asked : Request) → edit_asked words ≡ Some asked → All AsksWithDepth (step_of label asked)
+step-asks words label asked is =
+    All-cons AsksWithDepth (request.Begin label) (asked ∷ request.End ∷ []) tt
+    (All-cons AsksWithDepth asked (request.End ∷ []) (subst (λ (o : Option Request). IfSome o AsksWithDepth) is (edit-asks words)) (All-cons AsksWithDepth request.End [] tt (All-nil AsksWithDepth)))

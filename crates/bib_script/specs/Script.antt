@@ -1,6 +1,6 @@
 -- What the lines of a script ask for. (dialect)
-use Rattle.std.specs.Prelude.{ℕ, suc, ◌+◌, ◌-◌, ◌*◌, ◌&&◌, nat_le, if◌then◌else◌, List, [], ◌∷◌, length, Option, Some, None, option_map, option_and_then, bytes_eq, codes, fold}
-use Rattle.std.specs.List.{list_all}
+use Rattle.std.specs.Prelude.{ℕ, suc, ◌+◌, ◌-◌, ◌*◌, ◌&&◌, ◌==◌, nat_le, Bool, if◌then◌else◌, List, [], ◌∷◌, length, drop, Option, Some, None, option_map, option_and_then, bytes_eq, codes, fold}
+use Rattle.std.specs.List.{list_all, starts_with}
 use Rattle.std.specs.Option.{option_map_or}
 use Rattle.std.specs.Char.{is_ascii_digit}
 use Rattle.bib_spec.specs.Text.{Text}
@@ -10,6 +10,8 @@ use Rattle.history_spec.specs.Steps.{label_of}
 use Rattle.bib_data.specs.declared.edit.Edit.{Edit}
 use Rattle.bib_data.specs.declared.edit.Edit.TheVariants.{SetField, DropField, AddEntry, RemoveEntry, MoveEntry, RenameKey, RenameMacro, InlineMacro, IntroduceMacro, RegenerateKeys, SetType}
 use Rattle.bib_data.specs.declared.edit.NewEntry.{NewEntry}
+use Rattle.bib_data.specs.declared.position.Position.{Position}
+use Rattle.bib_data.specs.declared.position.Position.TheVariants.{Number, End, Before, After}
 use Rattle.bib_data.specs.declared.request.Request.{Request}
 use Rattle.bib_data.specs.declared.request.Request.TheVariants as request
 use Rattle.bib_script.specs.Parting.{words_of, lines_of}
@@ -23,6 +25,20 @@ with_digit n digit = n * 10 + (digit - 48)
 -- the number that 1 to 9 digits say; leading zeros are allowed
 abbrev pub number_of : Text → Option ℕ
 number_of word = if (nat_le 1 (length word) && nat_le (length word) 9) && list_all is_ascii_digit word then Some (fold with_digit 0 word) else None
+
+-- ---- positions
+
+-- the text begins with this word
+abbrev pub begins_with : Text → Text → Bool
+begins_with word text = starts_with (λ a b. a == b) text word
+
+-- the position that a word says: a number, `end`, `before:KEY` or `after:KEY`
+unfoldable pub position_of : Text → Option Position
+position_of word =
+    if bytes_eq word (codes "end") then Some End
+    else if begins_with (codes "before:") word then Some (Before (drop 7 word))
+    else if begins_with (codes "after:") word then Some (After (drop 6 word))
+    else option_map Number (number_of word)
 
 -- ---- words
 
@@ -46,10 +62,15 @@ drop_of _ = None
 abbrev pub new_entry : Text → Text → List (Text × Text) → NewEntry
 new_entry kind_name key fields = record { kind_name = kind_name; key = key; fields = fields }
 
+-- the request that adds this entry at this position; where the position is no number, the edit's own is not used
+abbrev pub adding : Position → NewEntry → Request
+adding (Number n) entry = request.Edit (AddEntry n entry)
+adding position entry = request.Place position (AddEntry 0 entry)
+
 -- `add POSITION TYPE KEY FIELD VALUE ..`
-abbrev pub add_of : List Text → Option Edit
+abbrev pub add_of : List Text → Option Request
 add_of (position ∷ kind_name ∷ key ∷ words) =
-    option_and_then (λ n. option_map (λ fields. AddEntry n (new_entry kind_name key fields)) (fields_of words)) (number_of position)
+    option_and_then (λ position. option_map (λ fields. adding position (new_entry kind_name key fields)) (fields_of words)) (position_of position)
 add_of _ = None
 
 -- `remove KEY`
@@ -57,9 +78,14 @@ abbrev pub remove_of : List Text → Option Edit
 remove_of (key ∷ []) = Some (RemoveEntry key)
 remove_of _ = None
 
+-- the request that moves this entry to this position
+abbrev pub moving : Text → Position → Request
+moving key (Number n) = request.Edit (MoveEntry key n)
+moving key position = request.Place position (MoveEntry key 0)
+
 -- `move KEY POSITION`
-abbrev pub move_of : List Text → Option Edit
-move_of (key ∷ position ∷ []) = option_map (MoveEntry key) (number_of position)
+abbrev pub move_of : List Text → Option Request
+move_of (key ∷ position ∷ []) = option_map (λ position. moving key position) (position_of position)
 move_of _ = None
 
 -- `set-type KEY TYPE`
@@ -108,17 +134,22 @@ renaming_of verb words =
     else if bytes_eq verb (codes "regenerate") then regenerate_of words
     else None
 
--- the edit that a line's words say
-abbrev pub edit_of : List Text → Option Edit
-edit_of [] = None
-edit_of (verb ∷ words) =
+-- the edit, without a position, that a verb and the words after it say
+abbrev pub edit_of : Text → List Text → Option Edit
+edit_of verb words =
     if bytes_eq verb (codes "set") then set_of words
     else if bytes_eq verb (codes "drop") then drop_of words
-    else if bytes_eq verb (codes "add") then add_of words
     else if bytes_eq verb (codes "remove") then remove_of words
-    else if bytes_eq verb (codes "move") then move_of words
     else if bytes_eq verb (codes "set-type") then set_type_of words
     else renaming_of verb words
+
+-- the edit that a line's words ask for
+abbrev pub edit_asked : List Text → Option Request
+edit_asked [] = None
+edit_asked (verb ∷ words) =
+    if bytes_eq verb (codes "add") then add_of words
+    else if bytes_eq verb (codes "move") then move_of words
+    else option_map request.Edit (edit_of verb words)
 
 -- `group LABEL`
 abbrev pub group_of : List Text → Option Request
@@ -136,7 +167,7 @@ request_of [] = None
 request_of (verb ∷ words) =
     if bytes_eq verb (codes "group") then group_of words
     else if bytes_eq verb (codes "end") then end_of words
-    else option_map request.Edit (edit_of (verb ∷ words))
+    else edit_asked (verb ∷ words)
 
 -- ---- lines
 

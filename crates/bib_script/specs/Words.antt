@@ -4,10 +4,9 @@ use Rattle.std.specs.List.{flat_map}
 use Rattle.bib_spec.specs.Bytes.{space}
 use Rattle.bib_spec.specs.Text.{Text}
 use Rattle.history_spec.specs.Steps.{label_limit, is_label_byte}
-use Rattle.bib_data.specs.declared.edit.Edit.{Edit}
 use Rattle.bib_data.specs.declared.request.Request.{Request}
 use Rattle.bib_data.specs.declared.request.Request.TheVariants as request
-use Rattle.bib_script.specs.Script.{edit_of}
+use Rattle.bib_script.specs.Script.{edit_asked}
 
 -- ---- the label
 
@@ -35,10 +34,10 @@ label_of_words words = map shown_byte (take (kept_len label_limit (spaced words)
 
 -- ---- what the words ask for
 
--- a step of one edit, with this label
-abbrev pub step_of : Text → Edit → List Request
-step_of label edit = request.Begin label ∷ request.Edit edit ∷ request.End ∷ []
+-- a step of the one edit that is asked for, with this label
+abbrev pub step_of : Text → Request → List Request
+step_of label edit = request.Begin label ∷ edit ∷ request.End ∷ []
 
 -- what the words ask for, if they say an edit: a step of that edit, labelled by them
 abbrev pub asked_by_words : List Text → Option (List Request)
-asked_by_words words = option_map (step_of (label_of_words words)) (edit_of words)
+asked_by_words words = option_map (step_of (label_of_words words)) (edit_asked words)

@@ -1,12 +1,12 @@
 //! One edit by its words.
 
 ghost use Rattle.std.specs.Prelude.{◌≡◌, ◌∷◌, [], map, All, IfOk, IfSome};
-ghost use Rattle.bib_data.specs.Depths.{HasDepth, AsksWithDepth};
+ghost use Rattle.bib_data.specs.Depths.{AsksWithDepth};
 ghost use Rattle.bib_script.specs.Words.{step_of, asked_by_words};
 
 use crate::labels::label_of_words;
-use crate::verbs::edit_of;
-use bib_data::{Edit, Label, Request};
+use crate::verbs::edit_asked;
+use bib_data::{Label, Request};
 use bib_text::{Seq, Text};
 use std::alloc::{AllocError, Global};
 
@@ -17,7 +17,7 @@ pub fn read_words(alloc: Global, words: &[Text]) -> Result<Option<Seq<Request>>,
     ensures depths { IfOk result (λ asked. IfSome asked (All AsksWithDepth)) }
 {
     let slices = slices(alloc, words)?;
-    match edit_of(alloc, slices.as_slice())? {
+    match edit_asked(alloc, slices.as_slice())? {
         Some(edit) => {
             let label = label_of_words(alloc, words)?;
             Ok(Some(step_of(alloc, label, edit)?))
@@ -26,13 +26,13 @@ pub fn read_words(alloc: Global, words: &[Text]) -> Result<Option<Seq<Request>>,
     }
 }
 
-/// A step of one edit, with this label.
-fn step_of(alloc: Global, label: Label, edit: Edit) -> Result<Seq<Request>, AllocError>
+/// A step of the one edit that is asked for, with this label.
+fn step_of(alloc: Global, label: Label, edit: Request) -> Result<Seq<Request>, AllocError>
     ensures { IfOk result (λ requests. requests ≡ step_of label edit) }
 {
     let mut requests = Vec::new(alloc);
     requests.push(Request::Begin(label))?;
-    requests.push(Request::Edit(edit))?;
+    requests.push(edit)?;
     requests.push(Request::End)?;
     Ok(Seq::from_vec(requests))
 }

@@ -2,12 +2,12 @@
 
 ghost use Rattle.std.specs.Prelude.{◌≡◌, bytes_eq, map, option_map, IfOk};
 ghost use Rattle.bib_data.specs.declared.request.Request.TheVariants as request;
-ghost use Rattle.bib_script.specs.Script.{fields_of, new_entry, set_of, drop_of, add_of, remove_of, move_of, set_type_of, rename_key_of, rename_macro_of, inline_of, introduce_of, depth_of, regenerate_of, renaming_of, edit_of, group_of, end_of, request_of};
+ghost use Rattle.bib_script.specs.Script.{fields_of, new_entry, set_of, drop_of, adding, add_of, remove_of, moving, move_of, position_of, set_type_of, rename_key_of, rename_macro_of, inline_of, introduce_of, depth_of, regenerate_of, renaming_of, edit_of, edit_asked, group_of, end_of, request_of};
 
 use crate::fields::fields_of;
-use crate::numbers::number_of;
-use bib_data::{Edit, Label, NewEntry, Request};
-use bib_text::copied;
+use crate::positions::read_position;
+use bib_data::{Edit, Label, NewEntry, Position, Request};
+use bib_text::{Text, copied};
 use std::alloc::{AllocError, Global};
 
 /// The depth of records if a line does not say it: parents only.
@@ -66,18 +66,28 @@ fn entry_of(
     }))
 }
 
+/// The request that adds this entry at this position.
+fn adding(position: Position, entry: NewEntry) -> Request
+    ensures { result ≡ adding position entry }
+{
+    match position {
+        Position::Number(place) => Request::Edit(Edit::AddEntry { place, entry }),
+        position => Request::Place(position, Edit::AddEntry { place: 0, entry }),
+    }
+}
+
 /// `add POSITION TYPE KEY FIELD VALUE ..`
-fn add_of(alloc: Global, words: &[&[u8]]) -> Result<Option<Edit>, AllocError>
-    ensures { IfOk result (λ edit. edit ≡ add_of (map (λ w. w.now) words.now)) }
+fn add_of(alloc: Global, words: &[&[u8]]) -> Result<Option<Request>, AllocError>
+    ensures { IfOk result (λ asked. asked ≡ add_of (map (λ w. w.now) words.now)) }
 {
     let [place, kind_name, key, fields @ ..] = words else {
         return Ok(None);
     };
-    let Some(place) = number_of(place) else {
+    let Some(position) = read_position(alloc, place)? else {
         return Ok(None);
     };
     match entry_of(alloc, kind_name, key, fields)? {
-        Some(entry) => Ok(Some(Edit::AddEntry { place, entry })),
+        Some(entry) => Ok(Some(adding(position, entry))),
         None => Ok(None),
     }
 }
@@ -94,20 +104,34 @@ fn remove_of(alloc: Global, words: &[&[u8]]) -> Result<Option<Edit>, AllocError>
     }))
 }
 
+/// The request that moves this entry to this position.
+fn moving(key: Text, position: Position) -> Request
+    ensures { result ≡ moving key position }
+{
+    match position {
+        Position::Number(place) => Request::Edit(Edit::MoveEntry { key, place }),
+        position => Request::Place(position, Edit::MoveEntry { key, place: 0 }),
+    }
+}
+
+/// The request that moves the entry with this key to the position that the word says.
+fn moved_to(alloc: Global, key: &[u8], place: &[u8]) -> Result<Option<Request>, AllocError>
+    ensures { IfOk result (λ asked. asked ≡ option_map (λ position. moving key.now position) (position_of place.now)) }
+{
+    match read_position(alloc, place)? {
+        Some(position) => Ok(Some(moving(copied(alloc, key)?, position))),
+        None => Ok(None),
+    }
+}
+
 /// `move KEY POSITION`
-fn move_of(alloc: Global, words: &[&[u8]]) -> Result<Option<Edit>, AllocError>
-    ensures { IfOk result (λ edit. edit ≡ move_of (map (λ w. w.now) words.now)) }
+fn move_of(alloc: Global, words: &[&[u8]]) -> Result<Option<Request>, AllocError>
+    ensures { IfOk result (λ asked. asked ≡ move_of (map (λ w. w.now) words.now)) }
 {
     let [key, place] = words else {
         return Ok(None);
     };
-    let Some(place) = number_of(place) else {
-        return Ok(None);
-    };
-    Ok(Some(Edit::MoveEntry {
-        key: copied(alloc, key)?,
-        place,
-    }))
+    moved_to(alloc, key, place)
 }
 
 /// `set-type KEY TYPE`
@@ -219,27 +243,46 @@ fn renaming_of(alloc: Global, verb: &[u8], words: &[&[u8]]) -> Result<Option<Edi
     }
 }
 
-/// The edit that words say, as a line of a script has them.
-pub(crate) fn edit_of(alloc: Global, words: &[&[u8]]) -> Result<Option<Edit>, AllocError>
-    ensures { IfOk result (λ edit. edit ≡ edit_of (map (λ w. w.now) words.now)) }
+/// The edit, without a position, that a verb and the words after it say.
+fn edit_of(alloc: Global, verb: &[u8], words: &[&[u8]]) -> Result<Option<Edit>, AllocError>
+    ensures { IfOk result (λ edit. edit ≡ edit_of verb.now (map (λ w. w.now) words.now)) }
 {
-    let [verb, words @ ..] = words else {
-        return Ok(None);
-    };
     if is(verb, b"set") {
         set_of(alloc, words)
     } else if is(verb, b"drop") {
         drop_of(alloc, words)
-    } else if is(verb, b"add") {
-        add_of(alloc, words)
     } else if is(verb, b"remove") {
         remove_of(alloc, words)
-    } else if is(verb, b"move") {
-        move_of(alloc, words)
     } else if is(verb, b"set-type") {
         set_type_of(alloc, words)
     } else {
         renaming_of(alloc, verb, words)
+    }
+}
+
+/// The request of an edit, if there is one.
+fn as_request(edit: Option<Edit>) -> Option<Request>
+    ensures { result ≡ option_map request.Edit edit }
+{
+    match edit {
+        Some(edit) => Some(Request::Edit(edit)),
+        None => None,
+    }
+}
+
+/// The edit that words ask for, as a line of a script has them.
+pub(crate) fn edit_asked(alloc: Global, words: &[&[u8]]) -> Result<Option<Request>, AllocError>
+    ensures { IfOk result (λ asked. asked ≡ edit_asked (map (λ w. w.now) words.now)) }
+{
+    let [verb, words @ ..] = words else {
+        return Ok(None);
+    };
+    if is(verb, b"add") {
+        add_of(alloc, words)
+    } else if is(verb, b"move") {
+        move_of(alloc, words)
+    } else {
+        Ok(as_request(edit_of(alloc, verb, words)?))
     }
 }
 
@@ -264,16 +307,6 @@ fn end_of(words: &[&[u8]]) -> Option<Request>
         Some(Request::End)
     } else {
         None
-    }
-}
-
-/// The edit that a line's words say, as a request.
-fn edit_asked(alloc: Global, words: &[&[u8]]) -> Result<Option<Request>, AllocError>
-    ensures { IfOk result (λ asked. asked ≡ option_map request.Edit (edit_of (map (λ w. w.now) words.now))) }
-{
-    match edit_of(alloc, words)? {
-        Some(edit) => Ok(Some(Request::Edit(edit))),
-        None => Ok(None),
     }
 }
 

@@ -1,6 +1,6 @@
 -- The files in the text of a shelf.
 use Rattle.std.proofs.Common.{◌≡◌, ℕ, ◌+◌, ◌-◌, ◌≤◌, Some, slice_get, List, [], ◌∷◌, ◌++◌, length, take, drop, refl, sym, ◌∙◌, ap, ap₂, arith, append_assoc, length-append, append-nil}
-use Rattle.std.proofs.Math.Seq.{drop-append_seam, take-append_seam, take-length}
+use Rattle.std.proofs.Math.Seq.{drop-append_seam, take-append_seam}
 use Rattle.bib_spec.specs.Text.{Text}
 use Rattle.shelf_spec.specs.Shelf.{seam, shelf_text}
 use Rattle.bib_shelf.proofs.Opens.{file_of_span, begins_first, ends_within}

@@ -1,7 +1,7 @@
 -- Another file after the files of a shelf.
 use Rattle.std.proofs.Common.{◌≡◌, ◌≢◌, ◌==◌, Bool, true, false, ℕ, ◌+◌, List, [], ◌∷◌, ◌++◌, length, refl, sym, ◌∙◌, ap, ap₂, arith, append_assoc, length-append, zero-add}
 use Rattle.std.proofs.lemmas.Bool.{eqb-true, false≢true}
-use Rattle.std.proofs.lemmas.List.{nil_from_length}
+use Rattle.std.proofs.lemmas.List.{nil_from_length, same_from_push}
 use Rattle.bib_store.proofs.RowTexts.{nil_cons}
 use Rattle.bib_spec.specs.Text.{Text}
 use Rattle.shelf_spec.specs.Shelf.{seam, shelf_text}
@@ -53,6 +53,38 @@ joined_more (first ∷ more) file text old new joined some seamed text_is spans_
   where
     start : length text ≡ (0 + length (shelf_text first more)) + length seam
     start = ap length seamed ∙ length-append old.text seam ∙ ap (λ t. length t + length seam) joined.text ∙ ap (λ n. n + length seam) (sym (zero-add (length (shelf_text first more))))
+
+-- ---- more bytes at the end of the last file
+
+-- the last file with more bytes: `spans` are those of the files before it, and it begins at `start`
+pub joined_longer : (files : List Text) (last bytes : Text) (spans : List (ℕ × ℕ)) (start end : ℕ) (old new : Joined) → AreJoined (files ++ last ∷ []) old →
+    old.spans ≡ spans ++ (start, end) ∷ [] → new.text ≡ old.text ++ bytes → new.spans ≡ spans ++ (start, length (old.text ++ bytes)) ∷ [] →
+    AreJoined (files ++ (last ++ bytes) ∷ []) new
+joined_longer [] last bytes spans start end old new are before text after =
+    let same : (spans ≡ []) × ((let p : ℕ × ℕ = (start, end) in p) ≡ (0, 0 + length last)) = same_from_push spans [] (start, end) (0, 0 + length last) (sym before ∙ are.spans) in
+    let ends : length (old.text ++ bytes) ≡ 0 + length (last ++ bytes) = ap (λ t. length (t ++ bytes)) are.text ∙ sym (zero-add (length (last ++ bytes))) in
+    record {
+      text = text ∙ ap (λ t. t ++ bytes) are.text;
+      spans = after ∙ ap₂ (λ (l : List (ℕ × ℕ)) (p : ℕ × ℕ). l ++ p ∷ []) same.0 (ap₂ (λ a b. let p : ℕ × ℕ = (a, b) in p) (ap (λ (p : ℕ × ℕ). p.0) same.1) ends);
+    }
+joined_longer (first ∷ more) last bytes spans start end old new are before text after =
+    let at : ℕ = (0 + length (shelf_text first more)) + length seam in
+    let same : (spans ≡ spans_from 0 (first ∷ more)) × ((let p : ℕ × ℕ = (start, end) in p) ≡ (at, at + length last)) =
+    same_from_push spans (spans_from 0 (first ∷ more)) (start, end) (at, at + length last) (sym before ∙ are.spans ∙ spans_from-more 0 first more last) in
+    let whole : old.text ++ bytes ≡ shelf_text first more ++ (seam ++ (last ++ bytes)) =
+    ap (λ t. t ++ bytes) (are.text ∙ shelf_text-more first more last) ∙ append_assoc (shelf_text first more) (seam ++ last) bytes
+    ∙ ap (λ t. shelf_text first more ++ t) (append_assoc seam last bytes) in
+    let ends : length (old.text ++ bytes) ≡ at + length (last ++ bytes) =
+    ap length whole ∙ length-append (shelf_text first more) (seam ++ (last ++ bytes)) ∙ ap (λ n. length (shelf_text first more) + n) (length-append seam (last ++ bytes))
+    ∙ regroup (length (shelf_text first more)) (length seam) (length (last ++ bytes)) in
+    record {
+      text = text ∙ whole ∙ sym (shelf_text-more first more (last ++ bytes));
+      spans = after ∙ ap₂ (λ (l : List (ℕ × ℕ)) (p : ℕ × ℕ). l ++ p ∷ []) same.0 (ap₂ (λ a b. let p : ℕ × ℕ = (a, b) in p) (ap (λ (p : ℕ × ℕ). p.0) same.1) ends)
+          ∙ sym (spans_from-more 0 first more (last ++ bytes));
+    }
+  where
+    regroup : (a b c : ℕ) → a + (b + c) ≡ ((0 + a) + b) + c
+    regroup a b c = omega arith
 
 -- the spans that were tested
 pub not_empty : (spans list : List (ℕ × ℕ)) (test : Bool) → test ≡ (length list == 0) → test ≡ false → list ≡ spans → spans ≢ []

@@ -4,3 +4,5 @@ pub mod Opens
 pub mod Files
 pub mod Searches
 pub mod Counts
+pub mod Parted
+pub mod PartedFiles

@@ -22,19 +22,31 @@ pub struct Joined {
     pub spans: Seq<(usize, usize)>,
 }
 
-/// The text with this file at its end, and the spans with that of the file.
-fn added(text: Vec<u8>, spans: Vec<(usize, usize)>, file: &[u8]) -> Result<Joined, AllocError>
-    ensures { IfOk result (λ joined. (joined.text ≡ text.items ++ file.now) × (joined.spans ≡ spans.items ++ (length text.items, length (text.items ++ file.now)) ∷ [])) }
+/// The text with these bytes at its end, and the spans with that of a file that begins at this place and ends with them.
+fn ended(
+    text: Vec<u8>,
+    spans: Vec<(usize, usize)>,
+    start: usize,
+    bytes: &[u8],
+) -> Result<Joined, AllocError>
+    ensures { IfOk result (λ joined. (joined.text ≡ text.items ++ bytes.now) × (joined.spans ≡ spans.items ++ (start, length (text.items ++ bytes.now)) ∷ [])) }
 {
     let mut text = text;
     let mut spans = spans;
-    let start = text.len();
-    text.extend_from_slice(file)?;
+    text.extend_from_slice(bytes)?;
     spans.push((start, text.len()))?;
     Ok(Joined {
         text: Text::from_vec(text),
         spans: Seq::from_vec(spans),
     })
+}
+
+/// The text with this file at its end, and the spans with that of the file.
+fn added(text: Vec<u8>, spans: Vec<(usize, usize)>, file: &[u8]) -> Result<Joined, AllocError>
+    ensures { IfOk result (λ joined. (joined.text ≡ text.items ++ file.now) × (joined.spans ≡ spans.items ++ (length text.items, length (text.items ++ file.now)) ∷ [])) }
+{
+    let start = text.len();
+    ended(text, spans, start, file)
 }
 
 impl Joined {
@@ -63,6 +75,22 @@ impl Joined {
         let mut text = self.text.into_vec();
         text.extend_from_slice(seam())?;
         added(text, self.spans.into_vec(), file)
+    }
+
+    /// The same files, with these bytes at the end of the last one; where there is no file, nothing is added. So a file can be added
+    /// piece by piece, as it is read. It takes time and memory in the length of these bytes, and now and then in the length of the
+    /// text, as a vector that grows.
+    pub fn with_more(self, bytes: &[u8]) -> Result<Self, AllocError>
+        ensures { IfOk result (λ joined. (files : List FileText) (last : FileText) → AreJoined (files ++ last ∷ []) self → AreJoined (files ++ (last ++ bytes.now) ∷ []) joined) }
+    {
+        let mut spans = self.spans.into_vec();
+        match spans.pop() {
+            Some((start, _)) => ended(self.text.into_vec(), spans, start, bytes),
+            None => Ok(Joined {
+                text: self.text,
+                spans: Seq::from_vec(spans),
+            }),
+        }
     }
 
     /// The text of the shelf of these files, which are copied. It takes time and memory in their length.

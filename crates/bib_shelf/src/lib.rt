@@ -8,9 +8,10 @@ mod joining;
 mod laws;
 mod locating;
 mod opening;
+mod reading;
 
 pub use fault::ShelfFault;
 pub use joining::{Joined, seam};
-pub use laws::a_shelf_has_one_reading;
+pub use laws::{a_shelf_has_one_reading, files_that_are_parted_have_readings};
 pub use locating::{file_in, locate};
 pub use opening::Shelf;

@@ -1,67 +1,20 @@
 //! Several files that are open as one database.
 
-ghost use Rattle.std.specs.Prelude.{◌≡◌, ◌<◌, ◌≤◌, ◌+◌, List, length, Some, slice_get, IfErr, OnOk};
-ghost use Rattle.bib_spec.specs.Bytes.{file_limit};
-ghost use Rattle.bib_spec.specs.Fault.{IsReadFault};
-ghost use Rattle.shelf_spec.specs.Numbers.{first_place};
+ghost use Rattle.std.specs.Prelude.{◌≡◌, ◌≢◌, List, length};
 ghost use Rattle.bib_spec.specs.Text.{Text as FileText};
 ghost use Rattle.bib_store.specs.Readings.{IsOpenFault};
-ghost use Rattle.bib_shelf.specs.Joined.{AreJoined, text_of, spans_from};
+ghost use Rattle.bib_shelf.specs.Joined.{AreJoined, AreOfShelf, text_of, spans_from};
 ghost use Rattle.bib_shelf.specs.Faults.{HaveTheirPlaces, RefusesShelf};
 
 use crate::counting::first_from;
 use crate::fault::ShelfFault;
 use crate::joining::Joined;
-use crate::locating::{bytes_between, locate};
-use bib_scan::{FILE_LIMIT, ReadFault, Seq, read};
-use bib_store::{Database, ItemList};
+use crate::locating::locate;
+use crate::reading::{check_each, read_each};
+use bib_scan::{ReadFault, Seq};
+use bib_store::{Database, ItemList, Unopened};
 use std::alloc::Global;
 use std::marker::Model;
-
-/// The fault of file `i`, which was read by itself.
-fn fault_of(i: usize, fault: ReadFault) -> ShelfFault
-    ensures { (files : List FileText) (text : FileText) → slice_get files i ≡ Some text → HaveTheirPlaces files i → first_place i files + length text ≤ file_limit
-        → IsReadFault text fault.kind fault.place → RefusesShelf files result.kind result.place result.file }
-{
-    if fault.is_memory() {
-        return ShelfFault::MEMORY;
-    }
-    ShelfFault::in_file(i, fault)
-}
-
-/// Reads file `i` by itself, if it ends in the shelf within the limit.
-fn read_file(alloc: Global, joined: &Joined, i: usize) -> Result<(), ShelfFault>
-    requires joined { (files : List FileText) × AreJoined files joined.now }
-    requires file { i < length joined.now.spans }
-    ensures read { OnOk result ((files : List FileText) → AreJoined files joined.now → HaveTheirPlaces files i → HaveTheirPlaces files (i + 1)) }
-    ensures fault { IfErr result (λ fault. (files : List FileText) → AreJoined files joined.now → HaveTheirPlaces files i → RefusesShelf files fault.kind fault.place fault.file) }
-{
-    let (start, end) = joined.spans.as_slice()[i];
-    if end > FILE_LIMIT {
-        return Err(ShelfFault {
-            kind: ReadFault::TOO_LONG.kind,
-            place: FILE_LIMIT.saturating_sub(start),
-            file: i,
-        });
-    }
-    let file = bytes_between(joined.text.as_slice(), start, end);
-    match read(alloc, file) {
-        Ok(_) => Ok(()),
-        Err(fault) => Err(fault_of(i, fault)),
-    }
-}
-
-/// Reads each file by itself, in order, up to the first that is at fault.
-fn read_each(alloc: Global, joined: &Joined) -> Result<(), ShelfFault>
-    requires { (files : List FileText) × AreJoined files joined.now }
-    ensures read { OnOk result ((files : List FileText) → AreJoined files joined.now → HaveTheirPlaces files (length files)) }
-    ensures fault { IfErr result (λ fault. (files : List FileText) → AreJoined files joined.now → RefusesShelf files fault.kind fault.place fault.file) }
-{
-    'files: for i in 0..joined.spans.as_slice().len() {
-        read_file(alloc, joined, i)?;
-    }
-    Ok(())
-}
 
 /// The fault of the shelf's text, as one of the file that has it.
 fn located(spans: &[(usize, usize)], fault: ReadFault) -> ShelfFault
@@ -76,6 +29,22 @@ fn located(spans: &[(usize, usize)], fault: ReadFault) -> ShelfFault
         kind: fault.kind,
         place,
         file,
+    }
+}
+
+/// Why the shelf's text was not opened: the fault of the first file that has one, or else that of the text.
+fn first_fault(alloc: Global, unopened: Unopened, spans: &[(usize, usize)]) -> ShelfFault
+    requires { unopened.fault.kind ≢ 10 → AreOfShelf unopened.file spans.now }
+    ensures { (files : List FileText) → (unopened.fault.kind ≢ 10 → AreJoined files (record { text = unopened.file; spans = spans.now })) → IsOpenFault (text_of files) unopened.fault.kind unopened.fault.place
+        → RefusesShelf files result.kind result.place result.file }
+{
+    let Unopened { fault, file } = unopened;
+    if fault.is_memory() {
+        return ShelfFault::MEMORY;
+    }
+    match read_each(alloc, file.as_slice(), spans) {
+        Ok(()) => located(spans, fault),
+        Err(first) => first,
     }
 }
 
@@ -118,7 +87,8 @@ impl<L: ItemList> Shelf<L> {
         Shelf::open_joined(alloc, joined, empty)
     }
 
-    /// Opens these files as `open` does, without a copy of their text.
+    /// Opens these files as `open` does, without a copy of their text. It reads them in one pass. If they are refused, it also reads
+    /// each file by itself, to find which is at fault; and if the end of a file lies in an item of their text, it copies that.
     pub fn open_joined(alloc: Global, joined: Joined, empty: L) -> Result<Self, ShelfFault>
         requires joined { (files : List FileText) × AreJoined files joined }
         requires empty { L.items empty ≡ [] }
@@ -126,11 +96,13 @@ impl<L: ItemList> Shelf<L> {
         ensures files { OnOk result ((files : List FileText) → AreJoined files joined → AreAccepted files) }
         ensures fault { IfErr result (λ fault. (files : List FileText) → AreJoined files joined → RefusesShelf files fault.kind fault.place fault.file) }
     {
-        read_each(alloc, &joined)?;
         let Joined { text, spans } = joined;
-        match Database::open_file(alloc, text.into_vec(), empty) {
-            Ok(database) => Ok(Shelf { database, spans }),
-            Err(fault) => Err(located(spans.as_slice(), fault)),
+        match Database::open_or_return(alloc, text.into_vec(), empty) {
+            Ok(database) => {
+                check_each(alloc, &database, spans.as_slice())?;
+                Ok(Shelf { database, spans })
+            }
+            Err(unopened) => Err(first_fault(alloc, unopened, spans.as_slice())),
         }
     }
 

@@ -1,2 +1,3 @@
 mod AskedSteps
 mod KeyLines
+mod OpenSteps

@@ -1,47 +1,51 @@
-//! One edit as a step.
+//! One change as a step.
 
 ghost use Rattle.std.specs.Prelude.{◌≡◌, All, OnOk, OnErr, IfErr};
-ghost use Rattle.bib_data.specs.Depths.{HasDepth, AsksWithDepth};
+ghost use Rattle.bib_data.specs.Depths.{AsksWithDepth};
 ghost use Rattle.bib_journal.specs.OpenSteps.{idle};
-ghost use Rattle.bib_journal.specs.Session.{RefusesEdit};
+ghost use Rattle.bib_journal.specs.Session.{Refuses};
 ghost use Rattle.bib_state.specs.Steps.{IsMade, MakesStep, RefusesStep, AsksStep, MakesAsked, RefusesAsked};
 ghost use Rattle.bib_state.specs.Calls.{MakesWords, RefusesWords};
 
 use crate::fault::CallFault;
-use bib_data::{Edit, Label, Request};
-use bib_journal::{Session, SessionFault};
+use bib_data::{Label, Request};
+use bib_journal::{Session, SessionFault, perform_one};
 use bib_script::read_words;
 use bib_store::Paged;
 use bib_text::Text;
 use std::alloc::Global;
 
-/// Makes an edit in the step that is open, or as a step of its own with this label. A refused edit leaves no step open that
-/// was not. It takes time and memory as `Session::edit` does.
+/// Does what the request asks in the step that is open, or as a step of its own with this label. What is refused leaves no step
+/// open that was not. It takes time and memory as the session does for the request.
 pub fn make_step(
     session: &mut Session<Paged>,
     label: &Label,
-    edit: &Edit,
+    change: &Request,
 ) -> Result<(), SessionFault>
-    requires { HasDepth edit.now }
-    ensures made { OnOk result (MakesStep label.now edit.now session.old session.new) }
-    ensures refused { IfErr result (λ fault. RefusesStep fault label.now edit.now session.old) }
+    requires { AsksWithDepth change.now }
+    ensures made { OnOk result (MakesStep label.now change.now session.old session.new) }
+    ensures refused { IfErr result (λ fault. RefusesStep fault label.now change.now session.old) }
     ensures err { OnErr result (session.new ≡ session.old) }
 {
     match session.begin(label.as_slice()) {
-        Ok(()) => make_alone(session, edit),
-        Err(SessionFault::StepOpen) => session.edit(edit),
-        Err(fault) => Err(fault),
+        Ok(()) => make_alone(session, change),
+        Err(fault) => {
+            if fault == SessionFault::StepOpen {
+                return perform_one(session, change);
+            }
+            Err(fault)
+        }
     }
 }
 
-/// Makes an edit, and ends the step that was begun for it.
-fn make_alone(session: &mut Session<Paged>, edit: &Edit) -> Result<(), SessionFault>
-    requires { HasDepth edit.now }
-    ensures made { OnOk result (IsMade edit.now session.old session.new) }
-    ensures refused { IfErr result (λ fault. RefusesEdit fault edit.now session.old) }
+/// Does what the request asks, and ends the step that was begun for it.
+fn make_alone(session: &mut Session<Paged>, change: &Request) -> Result<(), SessionFault>
+    requires { AsksWithDepth change.now }
+    ensures made { OnOk result (IsMade change.now session.old session.new) }
+    ensures refused { IfErr result (λ fault. Refuses fault change.now session.old) }
     ensures err { OnErr result (session.new ≡ idle session.old.steps) }
 {
-    let made = session.edit(edit);
+    let made = perform_one(session, change);
     end_any(session);
     made
 }
@@ -72,7 +76,7 @@ pub(crate) fn make_words(
     }
 }
 
-/// Makes the step of one edit for which these requests ask.
+/// Makes the step of one change for which these requests ask.
 fn make_asked(session: &mut Session<Paged>, requests: &[Request]) -> Result<(), SessionFault>
     requires depths { All AsksWithDepth requests.now }
     requires asked { AsksStep requests.now }
@@ -81,7 +85,7 @@ fn make_asked(session: &mut Session<Paged>, requests: &[Request]) -> Result<(), 
     ensures err { OnErr result (session.new ≡ session.old) }
 {
     match (&requests[0], &requests[1]) {
-        (Request::Begin(label), Request::Edit(edit)) => make_step(session, label, edit),
+        (Request::Begin(label), change) => make_step(session, label, change),
         _ => unreachable!(),
     }
 }

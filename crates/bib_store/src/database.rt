@@ -34,6 +34,13 @@ pub struct Database<L: ItemList> {
     seeks_parts: bool,
 }
 
+/// Why a file was not opened, and its bytes; if memory ran out, perhaps none.
+#[derive(Drop)]
+pub struct Unopened {
+    pub fault: ReadFault,
+    pub file: Text,
+}
+
 impl<L: ItemList> Model for Database<L> {
     ghost use Rattle.bib_spec.specs.Text.{Text as Bytes};
     ghost use Rattle.bib_store.specs.Stored.{file_of, IsKept};
@@ -48,7 +55,7 @@ impl<L: ItemList> Model for Database<L> {
 
 impl<L: ItemList> Database<L> {
     ghost use Rattle.std.specs.List.{between};
-    ghost use Rattle.std.specs.Prelude.{◌≡◌, ◌≤◌, false, [], Some, None, length, slice_get, option_and_then, count_by, IsTrue, IfOk, IfErr, IfSome, OnOk};
+    ghost use Rattle.std.specs.Prelude.{◌≡◌, ◌≢◌, ◌≤◌, false, [], Some, None, length, slice_get, option_and_then, count_by, IsTrue, IfOk, IfErr, IfSome, OnOk};
     ghost use Rattle.std.specs.Option.{option_copied, option_map};
     ghost use Rattle.bib_spec.specs.Bytes.{name_limit};
     ghost use Rattle.bib_spec.specs.Texts.{IsOpenable};
@@ -92,6 +99,33 @@ impl<L: ItemList> Database<L> {
         let (tables, layout) = Tables::read(alloc, file.as_slice())?;
         let (front, items, notes) = take_file(alloc, layout, file, empty)?;
         Ok(Database::of_items(alloc, front, items, notes, tables))
+    }
+
+    /// Opens this file as `open_file` does. If it is refused, its bytes are given back with the fault, so that the caller can say more
+    /// of the file; if memory runs out, there may be none.
+    pub fn open_or_return(alloc: Global, file: Vec<u8>, empty: L) -> Result<Database<L>, Unopened>
+        requires { L.items empty ≡ [] }
+        ensures opened { IfOk result (λ db. db ≡ file.items) }
+        ensures openable { OnOk result (IsOpenable file.items) }
+        ensures fault { IfErr result (λ unopened. IsOpenFault file.items unopened.fault.kind unopened.fault.place) }
+        ensures returned { IfErr result (λ unopened. unopened.fault.kind ≢ 10 → unopened.file ≡ file.items) }
+    {
+        let (tables, layout) = match Tables::read(alloc, file.as_slice()) {
+            Ok(read) => read,
+            Err(fault) => {
+                return Err(Unopened {
+                    fault,
+                    file: Seq::from_vec(file),
+                });
+            }
+        };
+        match take_file(alloc, layout, file, empty) {
+            Ok((front, items, notes)) => Ok(Database::of_items(alloc, front, items, notes, tables)),
+            Err(fault) => Err(Unopened {
+                fault,
+                file: Seq::empty(alloc),
+            }),
+        }
     }
 
     /// Builds the database from its parts: the front, the items, their notes and the tables.

@@ -57,6 +57,7 @@ pub(crate) fn take_file<L: ItemList>(
     requires empty { L.items empty ≡ [] }
     ensures taken { IfOk result (λ kept. IsTaken file.items kept.0 (L.items kept.1) kept.2) }
     ensures fault { IfErr result (λ fault. IsOpenFault file.items fault.kind fault.place) }
+    ensures only { IfErr result (λ fault. fault.kind ≡ 10) }
 {
     match keep_file(alloc, &layout, file, empty) {
         Ok((front, items)) => Ok((front, items, layout.into_notes())),

@@ -36,6 +36,6 @@ pub use bib_definitions::MacrosAt;
 pub use bib_entries::Holders;
 pub use bib_items::{Flat, Item, ItemList, Paged, StoreFault};
 pub use composing::{compose, compose_at};
-pub use database::Database;
+pub use database::{Database, Unopened};
 pub use record::{Cited, Expanded};
 pub use reversing::reverse;

@@ -1,5 +1,6 @@
 -- What a terminal is shown. (dialect)
 use Rattle.std.specs.Prelude.{◌≡◌, ℕ, ◌+◌, ◌-◌, ◌≤◌, ◌<◌, ◌==◌, ◌||◌, ◌&&◌, not, nat_le, nat_lt, Bool, true, false, List, [], ◌∷◌, ◌++◌, length, take, drop, Option, IfOk, if◌then◌else◌}
+use Rattle.std.specs.List.{count_by}
 use Rattle.std.specs.declared.result.Result.{Result}
 use Rattle.std.specs.Io.KnownBytes.{Appends}
 
@@ -31,6 +32,15 @@ abbrev pub begins_with_control : List ℕ → Bool
 begins_with_control [] = false
 begins_with_control (b ∷ []) = is_control b
 begins_with_control (b ∷ c ∷ rest) = are_control b c || is_control b
+
+-- the byte is a control byte, or the first byte of a control character of two bytes
+abbrev pub may_begin : ℕ → Bool
+may_begin b = is_control b || b == 194
+
+-- the text has at least as many bytes, and no control character begins with one of them
+pub record IsPlainRun (text : List ℕ) (n : ℕ) : Type 0 where
+  pub within : n ≤ length text
+  pub none : count_by may_begin (take n text) ≡ 0
 
 -- what was written shows the front of the text, and `rest` is what is still to be shown of it
 pub record ShowsFront (old new : Option (List ℕ)) (text rest : List ℕ) : Type 0 where

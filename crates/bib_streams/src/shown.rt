@@ -1,12 +1,16 @@
 //! A writer that shows control bytes where it writes to a terminal.
 
-ghost use Rattle.std.specs.Prelude.{◌≡◌, ◌<◌, true, length};
+ghost use Rattle.std.specs.Prelude.{◌≡◌, ◌<◌, ◌≤◌, true, length, take, drop, IsTrue};
+ghost use Rattle.std.specs.List.{count_by};
 ghost use Rattle.std.specs.Io.{WritesAtMost};
 ghost use Rattle.std.specs.Io.KnownBytes.{Keeps, WriteAppends};
-ghost use Rattle.bib_streams.specs.Shown.{is_control, are_control, letter_of, begins_with_control, IsPlainFront, WritesShown};
+ghost use Rattle.bib_streams.specs.Shown.{is_control, are_control, letter_of, begins_with_control, may_begin, IsPlainRun, IsPlainFront, WritesShown};
 
 use std::io;
 use std::io::Write;
+
+/// How many bytes are looked at together: their count fits a byte.
+const RUN: usize = 128;
 
 /// A writer that passes on what is written to it. For a terminal it shows control bytes: ESC as `^[`, and U+009B as `M-^[`.
 /// Then no file can give orders to the terminal. Tabs and line feeds pass. Its calls take no memory.
@@ -76,16 +80,51 @@ fn write_shown<W: Write>(inner: &mut W, text: &[u8]) -> io::Result<usize>
     write_control(inner, text)
 }
 
-/// How many bytes at the front are shown as they are.
+/// How many bytes at the front are shown as they are. Bytes are looked at run by run as long as no run has a byte with which a
+/// control character may begin, and then one by one.
 fn plain_len(text: &[u8]) -> usize
     ensures plain { IsPlainFront text.now result }
     ensures rest { result ≡ 0 → 0 < length text.now → begins_with_control text.now ≡ true }
 {
     let mut len = 0;
+    'runs: while begins_with_plain_run(text.split_at(len).1) {
+        len += RUN;
+    }
     'plain: while len < text.len() && !begins_with_control(text.split_at(len).1) {
         len += 1;
     }
     len
+}
+
+/// Whether there is a run of bytes at the front of which none may begin a control character.
+fn begins_with_plain_run(text: &[u8]) -> bool
+    ensures { IsTrue result → IsPlainRun text.now 128 }
+{
+    if text.len() < RUN {
+        return false;
+    }
+    count_in_run(text.split_at(RUN).0) == 0
+}
+
+/// How many bytes of a run may begin a control character. While the count fits a byte, the processor counts many bytes at once.
+fn count_in_run(run: &[u8]) -> u8
+    requires { length run.now ≤ 255 }
+    ensures { result ≡ count_by may_begin run.now }
+{
+    let mut count = 0;
+    'bytes: for byte in run {
+        if may_begin(*byte) {
+            count += 1;
+        }
+    }
+    count
+}
+
+/// Whether it is a control byte, or the first byte of characters some of which are control characters.
+fn may_begin(byte: u8) -> bool
+    ensures { result ≡ may_begin byte }
+{
+    is_control(byte) || byte == 0xC2
 }
 
 /// Whether the text begins with a control byte, or with a control character of two bytes.

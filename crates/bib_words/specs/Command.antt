@@ -5,7 +5,7 @@ use Rattle.bib_spec.specs.Records.{depth_limit}
 use Rattle.bib_words.specs.declared.commands.Command.{Command}
 use Rattle.bib_words.specs.declared.verbs.Shape.{Shape}
 use Rattle.bib_words.specs.declared.verbs.Verb.{Verb}
-use Rattle.bib_words.specs.Verbs.{verb_of, shape, adds_change, makes_file, reads_journal, takes_input, takes_dropped, takes_at, takes_scripts, takes_strict, takes_latex, takes_raw, takes_others}
+use Rattle.bib_words.specs.Verbs.{verb_of, shape, adds_change, makes_file, reads_journal, takes_input, takes_print, takes_dropped, takes_at, takes_scripts, takes_strict, takes_latex, takes_raw, takes_others}
 
 -- the greatest number that a command takes (dialect)
 abbrev pub number_limit : ℕ
@@ -37,11 +37,11 @@ pub record HasItsWords (shape : Shape) (c : Command) : Type 0 where
   pub depth : IsNumber shape.depth depth_limit c.depth
   pub aux : has_any c.aux ≡ true → shape.aux ≡ true
 
--- the command takes each option that is given: `--print` if it makes a file, `--new-journal` and `--no-journal` if it adds a
+-- the command takes each option that is given: `--print` if it makes a file or is `merge`, `--new-journal` and `--no-journal` if it adds a
 -- change, `--all-or-nothing` if it takes scripts, `--dropped` if it is `ris`, `--at` if it is `entry`, `--strict` if it is `cite`,
 -- `--latex` if it is `import`, `--raw` if it is `json`, `--before` and `--after` if it reads other files too (dialect)
 pub record HasItsOptions (verb : Verb) (c : Command) : Type 0 where
-  pub print : c.print ≡ true → makes_file verb ≡ true
+  pub print : c.print ≡ true → takes_print verb ≡ true
   pub new_journal : c.new_journal ≡ true → adds_change verb ≡ true
   pub no_journal : c.no_journal ≡ true → adds_change verb ≡ true
   pub all_or_nothing : c.all_or_nothing ≡ true → takes_scripts verb ≡ true
@@ -73,6 +73,6 @@ MakesFile c = IsSomeAnd (verb_of c.name) (λ verb. makes_file verb ≡ true)
 abbrev pub ReadsJournal : Command → Type 0
 ReadsJournal c = IsSomeAnd (verb_of c.name) (λ verb. (reads_journal verb && not c.no_journal) ≡ true)
 
--- the commands that read standard input as well as their file
+-- the commands that read an input as well as their file: standard input, or for `diff` the new file
 abbrev pub TakesInput : Command → Type 0
 TakesInput c = IsSomeAnd (verb_of c.name) (λ verb. takes_input verb (length c.words) ≡ true)

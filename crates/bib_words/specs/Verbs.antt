@@ -4,7 +4,7 @@ use Rattle.bib_spec.specs.Text.{Text}
 use Rattle.bib_words.specs.declared.verbs.Question.{Question}
 use Rattle.bib_words.specs.declared.verbs.Question.TheVariants.{Check, Show, Entry, Cite, Labels, Json, NewKeys, Ris, Extract}
 use Rattle.bib_words.specs.declared.verbs.Verb.{Verb}
-use Rattle.bib_words.specs.declared.verbs.Verb.TheVariants.{Asks, Cat, Lint, Names, Explain, Edit, Undo, Redo, Log, Forget, Import}
+use Rattle.bib_words.specs.declared.verbs.Verb.TheVariants.{Asks, Cat, Lint, Names, Explain, Edit, Undo, Redo, Log, Forget, Import, Insert, Merge, Diff}
 use Rattle.bib_words.specs.declared.verbs.Shape.{Shape}
 
 -- the command with this name, or none if the program has no such command
@@ -28,6 +28,9 @@ verb_of name =
     else if bytes_eq name (codes "ris") then Some (Asks Ris)
     else if bytes_eq name (codes "extract") then Some (Asks Extract)
     else if bytes_eq name (codes "import") then Some Import
+    else if bytes_eq name (codes "insert") then Some Insert
+    else if bytes_eq name (codes "merge") then Some Merge
+    else if bytes_eq name (codes "diff") then Some Diff
     else if bytes_eq name (codes "explain") then Some Explain
     else None
 
@@ -64,6 +67,9 @@ shape Cat = record alone { least = 0 }
 shape Names = record { least = 3; most = Some 3; number = false; depth = true; aux = false }
 shape Lint = record alone { most = None; aux = true }
 shape Edit = record alone { most = None }
+shape Insert = record alone { most = Some 2 }
+shape Merge = record alone { least = 3; most = Some 3 }
+shape Diff = record alone { least = 2; most = Some 2 }
 shape Undo = with_number
 shape Redo = with_number
 shape _ = alone
@@ -74,6 +80,7 @@ shape _ = alone
 abbrev pub adds_change : Verb → Bool
 adds_change Edit = true
 adds_change Import = true
+adds_change Insert = true
 adds_change _ = false
 
 -- the commands that make a new file from the old one
@@ -87,12 +94,19 @@ abbrev pub reads_journal : Verb → Bool
 reads_journal Log = true
 reads_journal verb = makes_file verb
 
--- The commands that read standard input as well as their file, by their number of arguments. `edit` reads it if no words of an
--- edit follow the file.
+-- The commands that read an input as well as their file, by their number of arguments: standard input, or for `diff` the new file.
+-- `edit` reads it if no words of an edit follow the file.
 abbrev pub takes_input : Verb → ℕ → Bool
 takes_input Edit words = words == 1
 takes_input Import words = true
+takes_input Insert words = true
+takes_input Diff words = true
 takes_input _ words = false
+
+-- the commands that take `--print`: those that make a new file from the old one, and `merge`, which makes one of three
+abbrev pub takes_print : Verb → Bool
+takes_print Merge = true
+takes_print verb = makes_file verb
 
 -- the commands that take `--dropped`
 abbrev pub takes_dropped : Verb → Bool

@@ -10,7 +10,8 @@ const NUMBER_LIMIT: u32 = 65_535;
 /// The greatest depth of the records that a command shows.
 const DEPTH_LIMIT: u8 = 8;
 
-/// A command: its name; its arguments in order, the file first if there is one, and for `lint` after it the codes to ignore;
+/// A command: its name; its arguments in order, the file first if there is one, for `diff` the old one and the new one, and for
+/// `lint` after it the codes to ignore;
 /// the names of the aux files that cite more keys, and of the files that are read before its own and after it; for `lint`, the keys
 /// that the aux files cite, file by file, each with its place; its number, and the depth of the records that it shows, each 0 if the
 /// command takes none; and whether its options `--print`, `--new-journal`, `--no-journal`, `--all-or-nothing`, `--dropped`, `--at`,
@@ -38,7 +39,7 @@ pub struct Command {
 
 impl Command {
     ghost use Rattle.std.specs.Prelude.{◌≡◌, ◌↔◌, ◌<◌, ◌≤◌, [], true, IsTrue, length, drop, slice_index_or};
-    ghost use Rattle.bib_words.specs.Verbs.{verb_of, takes_latex, takes_raw};
+    ghost use Rattle.bib_words.specs.Verbs.{verb_of, takes_print, adds_change, takes_scripts, takes_dropped, takes_at, takes_strict, takes_others, takes_latex, takes_raw};
     ghost use Rattle.bib_words.specs.Command.{HasItsWords, HasItsOptions, has_others, AddsChange, MakesFile, IsCommand, ReadsJournal, TakesInput};
 
     /// Whether the command has this name. It takes no memory.
@@ -85,7 +86,7 @@ impl Command {
         }
     }
 
-    /// Whether the command reads standard input as well as its file. It takes no memory.
+    /// Whether the command reads an input as well as its file: standard input, or for `diff` the new file. It takes no memory.
     pub fn takes_input(&self) -> bool
         ensures { IsTrue result ↔ TakesInput self.now }
     {
@@ -133,17 +134,26 @@ impl Command {
     fn has_its_options(&self, verb: Verb) -> bool
         ensures { IsTrue result ↔ HasItsOptions verb self.now }
     {
-        let are_to_change = is_allowed(self.print, verb.makes_file())
+        self.has_its_changes(verb) && self.has_its_choices(verb) && self.has_its_forms(verb)
+    }
+
+    /// Whether the command has each option that is given of those that say what becomes of a change.
+    fn has_its_changes(&self, verb: Verb) -> bool
+        ensures { IsTrue result ↔ ((self.now.print ≡ true → takes_print verb ≡ true) × (self.now.new_journal ≡ true → adds_change verb ≡ true) × (self.now.no_journal ≡ true → adds_change verb ≡ true) × (self.now.all_or_nothing ≡ true → takes_scripts verb ≡ true)) }
+    {
+        is_allowed(self.print, verb.takes_print())
             && is_allowed(self.new_journal, verb.adds_change())
             && is_allowed(self.no_journal, verb.adds_change())
-            && is_allowed(self.all_or_nothing, verb.takes_scripts());
-        if !are_to_change {
-            return false;
-        }
+            && is_allowed(self.all_or_nothing, verb.takes_scripts())
+    }
+
+    /// Whether the command has each option that is given of those that say what is answered.
+    fn has_its_choices(&self, verb: Verb) -> bool
+        ensures { IsTrue result ↔ ((self.now.dropped ≡ true → takes_dropped verb ≡ true) × (self.now.at ≡ true → takes_at verb ≡ true) × (self.now.strict ≡ true → takes_strict verb ≡ true) × (has_others self.now ≡ true → takes_others verb ≡ true)) }
+    {
         is_allowed(self.dropped, verb.takes_dropped())
             && is_allowed(self.at, verb.takes_at())
             && is_allowed(self.strict, verb.takes_strict())
-            && self.has_its_forms(verb)
             && is_allowed(self.has_others(), verb.takes_others())
     }
 

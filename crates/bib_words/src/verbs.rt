@@ -1,7 +1,7 @@
 //! The commands as data: what each takes and reads.
 
 ghost use Rattle.std.specs.Prelude.{◌≡◌, bytes_eq};
-ghost use Rattle.bib_words.specs.Verbs.{adds_change, makes_file, reads_journal, takes_input, takes_dropped, takes_at, takes_scripts, takes_strict, takes_latex, takes_raw, takes_others, question_shape, shape, verb_of};
+ghost use Rattle.bib_words.specs.Verbs.{adds_change, makes_file, reads_journal, takes_input, takes_dropped, takes_at, takes_scripts, takes_strict, takes_latex, takes_raw, takes_others, takes_print, question_shape, shape, verb_of};
 
 /// A command that answers what its file says, and reads nothing else.
 #[derive(Clone, Copy, Debug, PartialEq, Eq)]
@@ -31,6 +31,9 @@ pub enum Verb {
     Log,
     Forget,
     Import,
+    Insert,
+    Merge,
+    Diff,
 }
 
 /// What a command takes: how many arguments, the file among them, and whether a number, a depth, or aux files in place of keys.
@@ -127,6 +130,15 @@ impl Verb {
         if is(name, b"import") {
             return Some(Verb::Import);
         }
+        if is(name, b"insert") {
+            return Some(Verb::Insert);
+        }
+        if is(name, b"merge") {
+            return Some(Verb::Merge);
+        }
+        if is(name, b"diff") {
+            return Some(Verb::Diff);
+        }
         if is(name, b"explain") {
             return Some(Verb::Explain);
         }
@@ -137,14 +149,14 @@ impl Verb {
     pub fn adds_change(self) -> bool
         ensures { result ≡ adds_change self }
     {
-        matches!(self, Verb::Edit | Verb::Import)
+        matches!(self, Verb::Edit | Verb::Import | Verb::Insert)
     }
 
     /// Whether the command makes a new file from the old one.
     pub fn makes_file(self) -> bool
         ensures { result ≡ makes_file self }
     {
-        matches!(self, Verb::Edit | Verb::Import | Verb::Undo | Verb::Redo)
+        self.adds_change() || matches!(self, Verb::Undo | Verb::Redo)
     }
 
     /// Whether the command reads the journal of its file.
@@ -154,15 +166,23 @@ impl Verb {
         self.makes_file() || matches!(self, Verb::Log)
     }
 
-    /// Whether the command with this number of arguments reads standard input as well as its file.
+    /// Whether the command with this number of arguments reads an input as well as its file: standard input, or for `diff` the new
+    /// file.
     pub fn takes_input(self, words: usize) -> bool
         ensures { result ≡ takes_input self words }
     {
         match self {
-            Verb::Import => true,
+            Verb::Import | Verb::Insert | Verb::Diff => true,
             Verb::Edit => words == 1,
             _ => false,
         }
+    }
+
+    /// Whether the command takes `--print`.
+    pub fn takes_print(self) -> bool
+        ensures { result ≡ takes_print self }
+    {
+        self.makes_file() || matches!(self, Verb::Merge)
     }
 
     /// Whether the command takes `--dropped`.
@@ -238,6 +258,20 @@ impl Verb {
             },
             Verb::Edit => Shape {
                 most: None,
+                ..ALONE
+            },
+            Verb::Insert => Shape {
+                most: Some(2),
+                ..ALONE
+            },
+            Verb::Merge => Shape {
+                least: 3,
+                most: Some(3),
+                ..ALONE
+            },
+            Verb::Diff => Shape {
+                least: 2,
+                most: Some(2),
                 ..ALONE
             },
             Verb::Undo | Verb::Redo => Shape {

@@ -7,7 +7,11 @@ use Rattle.bib_run.specs.Runs.{TapView, TapsView, IsRun, taps, fresh}
 use Rattle.bib_files.specs.Folders.{Files, Told}
 use Rattle.bib_files.specs.Storing.{Paths, AreStored, AreUnstored}
 use Rattle.shelf_run.specs.Runs.{IsShelfRun}
-use Rattle.bibkeep.specs.Together.{RanTogether, all_names}
+use Rattle.merge_run.specs.Runs.{IsMergeRun}
+use Rattle.bib_run.specs.declared.reading.Sources.{Sources}
+use Rattle.bib_run.specs.Runs.{IsRunOver}
+use Rattle.bibkeep.specs.Together.{RanTogether, RanBetween, all_names}
+use Rattle.bibkeep.specs.Merging.{RanMerge}
 use Rattle.bibkeep.specs.Ending.{RanHere, IsFinished, EndsFor, leaves_some}
 
 -- a tap that was not called yet
@@ -62,3 +66,20 @@ ran_together command names texts out now outcome of_command new ran = record {
   ran = subst (λ (t : TapView). IsShelfRun command (all_names command) texts t now outcome) new
       (subst (λ (ns : List Text). IsShelfRun command ns texts out now outcome) of_command ran);
 }
+
+-- a merge of three files, with a tap over standard output that was not called yet
+pub ran_merge : (command : Command) (base ours theirs : Text) (out now : TapView) (outcome : Outcome) → out ≡ fresh None
+    → IsMergeRun command base ours theirs out now outcome → RanMerge command base ours theirs outcome
+ran_merge command base ours theirs out now outcome new ran = record { now = now; ran = subst (λ (t : TapView). IsMergeRun command base ours theirs t now outcome) new ran }
+
+-- a merge that is finished ends as the command does
+pub merges_so : (command : Command) (paths : Option Paths) (base ours theirs : Text) (outcome : Outcome) (status : ℕ) (old new : Option Files)
+    → RanMerge command base ours theirs outcome → IsFinished paths outcome status old new → EndsFor command status
+merges_so command paths base ours theirs outcome status old new ran (IsFinished.stored at place is told) = EndsFor.merged base ours theirs outcome ran is
+merges_so command paths base ours theirs outcome status old new ran (IsFinished.nothing none is same) = EndsFor.merged base ours theirs outcome ran is
+merges_so command paths base ours theirs outcome status old new ran (IsFinished.unstored at place some is told) = EndsFor.fault is
+merges_so command paths base ours theirs outcome status old new ran (IsFinished.no_place none some is same) = EndsFor.fault is
+
+-- a run over files that were read, with a tap over standard output that was not called yet
+pub ran_between : (command : Command) (sources : Sources) (out now : TapView) (outcome : Outcome) → out ≡ fresh None → IsRunOver command sources out now outcome → RanBetween command outcome
+ran_between command sources out now outcome new ran = record { sources = sources; now = now; ran = subst (λ (t : TapView). IsRunOver command sources t now outcome) new ran }

@@ -4,7 +4,8 @@ use Rattle.bib_spec.specs.Text.{Text}
 use Rattle.bib_words.specs.declared.commands.Command.{Command}
 use Rattle.bib_answers.specs.declared.answers.Outcome.{Outcome}
 use Rattle.bib_run.specs.Runs.{TapsView, IsRun, taps, fresh}
-use Rattle.bibkeep.specs.Together.{RanTogether}
+use Rattle.bibkeep.specs.Together.{RanTogether, RanBetween}
+use Rattle.bibkeep.specs.Merging.{RanMerge}
 use Rattle.bib_files.specs.Folders.{Files, Told}
 use Rattle.bib_files.specs.Storing.{Paths, AreStored, AreUnstored}
 
@@ -33,17 +34,25 @@ pub record RanAndFinished (command : Command) (paths : Option Paths) (file : Opt
   pub ran : RanHere command file journal outcome
   pub finished : IsFinished paths outcome status old new
 
+-- The three files with these bytes were merged, and the merge finished with this status.
+pub record MergedAndFinished (command : Command) (paths : Option Paths) (base ours theirs : Text) (status : ℕ) (old new : Option Files) : Type 0 where
+  pub outcome : Outcome
+  pub ran : RanMerge command base ours theirs outcome
+  pub finished : IsFinished paths outcome status old new
+
 -- The command was run over a source without a place, and this is the status of the run.
 pub record RanAlone (command : Command) (source : Option Text) (status : ℕ) : Type 0 where
   pub outcome : Outcome
   pub ran : RanHere command source None outcome
   pub is : status ≡ outcome.status
 
--- The program ends with this status for this command: the status of a run of the command, over its file or over several; or 3 if a file
--- could not be opened or nothing could be stored, 4 if memory was refused, 2 if its words are no path.
+-- The program ends with this status for this command: the status of a run of the command, over its file, over several, from one to
+-- another, or of a merge; or 3 if a file could not be opened or nothing could be stored, 4 if memory was refused, 2 if its words are no path.
 pub data EndsFor (command : Command) (status : ℕ) : Type 0 where
   ran : (file : Option Text) (journal : Option (Option Text)) (outcome : Outcome) → RanHere command file journal outcome → status ≡ outcome.status → EndsFor command status
+  merged : (base ours theirs : Text) (outcome : Outcome) → RanMerge command base ours theirs outcome → status ≡ outcome.status → EndsFor command status
   together : (outcome : Outcome) → RanTogether command outcome → status ≡ outcome.status → EndsFor command status
+  between : (outcome : Outcome) → RanBetween command outcome → status ≡ outcome.status → EndsFor command status
   no_path : status ≡ 2 → EndsFor command status
   fault : status ≡ 3 → EndsFor command status
   no_memory : status ≡ 4 → EndsFor command status

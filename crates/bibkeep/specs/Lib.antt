@@ -1,3 +1,4 @@
+pub mod Merging
 pub mod Ending
 pub mod Opening
 pub mod Citing

@@ -12,11 +12,12 @@ ghost use Rattle.bib_run.specs.Runs.{fresh, view_of};
 ghost use Rattle.bibkeep.specs.Ending.{RanHere, RanAndFinished, RanAlone, EndsFor};
 ghost use Rattle.bib_shelf.specs.Joined.{AreJoined};
 ghost use Rattle.bibkeep.specs.Citing.{EndsCiting};
-ghost use Rattle.bibkeep.specs.Together.{all_names, RanTogether};
+ghost use Rattle.bibkeep.specs.Together.{all_names, RanTogether, RanBetween};
 
 mod aux_files;
 mod disk;
 mod endings;
+mod merging;
 mod opening;
 mod other_files;
 mod saying;
@@ -25,7 +26,7 @@ mod storing;
 use aux_files::{AuxFault, cited_in, citing, names_any, placed_in, placing};
 use bib_command::{Request, parse_request};
 use bib_files::{Folder, Paths};
-use bib_run::{Outcome, Tap, WRITE_FAULT, run};
+use bib_run::{Outcome, Sources, Tap, WRITE_FAULT, run, run_read};
 use bib_streams::{Heard, Kept};
 use bib_text::Text;
 use bib_words::{Command, status};
@@ -34,8 +35,9 @@ use endings::{
     end, end_long, end_run, end_unknown, end_unopened, end_unread, end_usage, end_without_memory,
     end_without_words, errors, output,
 };
+use merging::{Three, merge_files, three_files};
 use opening::{Journal, Opened, expect_room, open, stores};
-use other_files::{FileFault, all_names, joined_files};
+use other_files::{FileFault, all_names, joined_files, two_files};
 use saying::{
     Ran, Streams, invite, is_closed_by, may_hint, say_hints, say_trouble, say_unstored, say_usage,
 };
@@ -141,7 +143,8 @@ fn perform_known(rt: &HostRuntime, alloc: Global, command: &Command, hints: bool
 }
 
 /// Runs the command over the file that it names and its journal, or over standard input if it names no file; `explain`
-/// reads neither; or over several files, if it names others. What is new is put in its place. With `hints`, hints follow a message.
+/// reads neither; `diff` is run over the two files that it names, and `merge` over three; or it is run over several files, if it names
+/// others. What is new is put in its place. With `hints`, hints follow a message.
 fn perform(rt: &HostRuntime, alloc: Global, command: &Command, hints: bool) -> u8
     requires { IsCommand command.now }
     ensures { EndsFor command.now result }
@@ -149,8 +152,14 @@ fn perform(rt: &HostRuntime, alloc: Global, command: &Command, hints: bool) -> u
     if command.has_others() {
         return run_together(rt, alloc, command, hints);
     }
+    if command.is_named(b"merge") {
+        return run_merging(rt, alloc, command, hints);
+    }
     if command.is_named(b"explain") {
         return run_alone(rt, alloc, command, hints, b"".as_slice());
+    }
+    if command.is_named(b"diff") {
+        return run_between(rt, alloc, command, hints);
     }
     let Some(path) = command.words.as_slice().first() else {
         return run_alone(rt, alloc, command, hints, rt.stdin());
@@ -217,6 +226,83 @@ fn outcome_of_joined(
 {
     let mut out = output(rt, command.is_named(b"lint"));
     let outcome = run_shelf(alloc, command, names, files, &mut out);
+    (
+        outcome,
+        is_closed_by(&out.into_inner().into_inner().error()),
+    )
+}
+
+/// Merges the three files that the command names, and puts the merged file in the place of ours.
+fn run_merging(rt: &HostRuntime, alloc: Global, command: &Command, hints: bool) -> u8
+    ensures { EndsFor command.now result }
+{
+    let [base, ours, theirs] = command.words.as_slice() else {
+        return end_unknown(&mut errors(rt));
+    };
+    let names = [base.as_slice(), ours.as_slice(), theirs.as_slice()];
+    match three_files(rt, alloc, names, !command.print) {
+        Ok(files) => merge_three(rt, alloc, command, hints, &files),
+        Err(fault) => end_unheard(rt, alloc, command, hints, &fault),
+    }
+}
+
+/// Merges these three files, and puts the merged file in the place of ours.
+fn merge_three(rt: &HostRuntime, alloc: Global, command: &Command, hints: bool, files: &Three) -> u8
+    ensures { EndsFor command.now result }
+{
+    let mut disk = Disk {
+        rt,
+        file: &files.place.file,
+        first: None,
+    };
+    merge_files(
+        rt,
+        alloc,
+        command,
+        hints,
+        &mut disk,
+        files.place.paths.as_ref(),
+        files.base.as_slice(),
+        files.ours.as_slice(),
+        files.theirs.as_slice(),
+    )
+}
+
+/// Runs the command over the two files that it names, and says how it ended.
+fn run_between(rt: &HostRuntime, alloc: Global, command: &Command, hints: bool) -> u8
+    requires { IsCommand command.now }
+    ensures { EndsFor command.now result }
+{
+    let [old, new] = command.words.as_slice() else {
+        return end_unknown(&mut errors(rt));
+    };
+    match two_files(rt, alloc, old.as_slice(), new.as_slice()) {
+        Ok(sources) => run_sources(rt, alloc, command, sources),
+        Err(fault) => end_unheard(rt, alloc, command, hints, &fault),
+    }
+}
+
+/// Runs the command over files that were read, and says how it ended.
+fn run_sources(rt: &HostRuntime, alloc: Global, command: &Command, sources: Sources) -> u8
+    requires { IsCommand command.now }
+    ensures { EndsFor command.now result }
+{
+    let (outcome, is_closed) = outcome_of_sources(rt, alloc, command, sources);
+    end_run(&mut errors(rt), &outcome, is_closed)
+}
+
+/// The outcome of the command over files that were read, and whether the reader of the output was gone before its end.
+fn outcome_of_sources(
+    rt: &HostRuntime,
+    alloc: Global,
+    command: &Command,
+    sources: Sources,
+) -> (Outcome, bool)
+    requires { IsCommand command.now }
+    ensures { RanBetween command.now result.0 }
+{
+    let mut out = output(rt, false);
+    let outcome = run_read(alloc, command, sources, &mut out);
     (
         outcome,
         is_closed_by(&out.into_inner().into_inner().error()),

@@ -28,6 +28,13 @@ pub enum Journal {
     Link,
 }
 
+/// An open file, and the paths at which it is stored, if it is to be stored.
+#[derive(Drop)]
+pub struct Place {
+    pub file: File,
+    pub paths: Option<Paths>,
+}
+
 /// What a run reads, and the paths at which it stores, if there are any.
 #[derive(Drop)]
 pub struct Opened {
@@ -76,6 +83,21 @@ pub fn open(rt: &HostRuntime, alloc: Global, command: &Command, path: &str) -> i
         journal,
         paths,
     })
+}
+
+/// Opens a file that a new one is to replace if it `stores`: then it is locked, and it is the file that the path leads to.
+pub fn open_place(rt: &HostRuntime, alloc: Global, path: &str, stores: bool) -> io::Result<Place> {
+    if !stores {
+        let file = File::open(rt, path)?;
+        return Ok(Place { file, paths: None });
+    }
+    let paths = paths_of(rt, alloc, path)?;
+    let path = match &paths {
+        Some(paths) => paths.file(),
+        None => path,
+    };
+    let file = open_locked(rt, path)?;
+    Ok(Place { file, paths })
 }
 
 /// The paths at which the file and its journal are stored. If the path is a symbolic link, they are those of the file that

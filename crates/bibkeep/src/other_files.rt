@@ -1,22 +1,25 @@
-//! Files beside the one that a command is run over: the files that are read as one with it, and aux files.
+//! Files beside the one that a command is run over: the files that are read as one with it, a new file, and aux files.
 
-ghost use Rattle.std.specs.Prelude.{◌≡◌, ◌++◌, List, map, IfOk, OnOk};
+ghost use Rattle.std.specs.Prelude.{◌≡◌, ◌++◌, ◌∷◌, [], List, map, IfOk, OnOk};
 ghost use Rattle.bib_spec.specs.Text.{Text as FileText};
 ghost use Rattle.bib_shelf.specs.Joined.{AreJoined};
 ghost use Rattle.bibkeep.specs.Together.{all_names};
 
-use bib_run::{SourceFault, Tap, read_up_to};
+use bib_run::{SourceFault, Sources, Tap, read_up_to};
 use bib_streams::Heard;
 use bib_text::{Seq, Text, copied};
 use bib_words::Command;
 use shelf_run::Joined;
 use std::alloc::{AllocError, Global};
 use std::fs::File;
-use std::io::ErrorKind;
+use std::io::{ErrorKind, Read};
 use std::{io, str};
 
-/// Files that are read as one have at most 16,777,216 bytes. One more shows that they have more.
-const READ_LIMIT: usize = 16_777_217;
+/// A file, and files that are read as one, have at most 16,777,216 bytes. One more shows that they have more.
+pub const READ_LIMIT: usize = 16_777_217;
+
+/// One call reads at most this many bytes.
+const CHUNK: usize = 16_384;
 
 /// Why such a file is not read.
 #[derive(Drop)]
@@ -43,16 +46,58 @@ pub fn unread(alloc: Global, path: &[u8], kind: ErrorKind) -> FileFault {
     }
 }
 
+/// Why this source, on which a read ended with this fault, was not read.
+fn reason<R: Read>(source: Tap<Heard<R>>, fault: SourceFault) -> io::Error
+where
+    R: Drop,
+{
+    match fault {
+        SourceFault::OutOfMemory => ErrorKind::OutOfMemory.into(),
+        SourceFault::Failed => match source.into_inner().error() {
+            Some(error) => error,
+            None => ErrorKind::InvalidInput.into(),
+        },
+    }
+}
+
 /// The bytes of the file at this path, up to so many.
 pub fn text_at(rt: &HostRuntime, alloc: Global, path: &str, most: usize) -> io::Result<Vec<u8>> {
-    let mut source = Tap::new(Heard::new(File::open(rt, path)?));
+    text_of(alloc, &File::open(rt, path)?, most)
+}
+
+/// The bytes of this file, up to so many.
+pub fn text_of(alloc: Global, file: &File, most: usize) -> io::Result<Vec<u8>> {
+    let mut source = Tap::new(Heard::new(file));
     match read_up_to(alloc, &mut source, most) {
         Ok(text) => Ok(text),
-        Err(SourceFault::OutOfMemory) => Err(ErrorKind::OutOfMemory.into()),
-        Err(SourceFault::Failed) => match source.into_inner().error() {
-            Some(error) => Err(error),
-            None => Err(ErrorKind::InvalidInput.into()),
-        },
+        Err(fault) => Err(reason(source, fault)),
+    }
+}
+
+/// What the files with these names hold, the old one and the new one, each up to one byte past the limit.
+pub fn two_files(
+    rt: &HostRuntime,
+    alloc: Global,
+    old: &[u8],
+    new: &[u8],
+) -> Result<Sources, FileFault> {
+    let file = text_named(rt, alloc, old)?;
+    let input = text_named(rt, alloc, new)?;
+    Ok(Sources {
+        file,
+        journal: None,
+        input,
+    })
+}
+
+/// The bytes of the file with this name, up to one byte past the limit.
+fn text_named(rt: &HostRuntime, alloc: Global, name: &[u8]) -> Result<Text, FileFault> {
+    let Ok(path) = str::from_utf8(name) else {
+        return Err(unread(alloc, name, ErrorKind::InvalidFilename));
+    };
+    match text_at(rt, alloc, path, READ_LIMIT) {
+        Ok(text) => Ok(Seq::from_vec(text)),
+        Err(error) => Err(unread(alloc, name, error.kind())),
     }
 }
 
@@ -84,25 +129,68 @@ pub fn joined_files(rt: &HostRuntime, alloc: Global, names: &[Text]) -> Result<J
 {
     let mut joined = Joined::empty(alloc);
     'files: for name in names {
-        let room = READ_LIMIT.saturating_sub(joined.text.as_slice().len());
-        let bytes = named_bytes(rt, alloc, name.as_slice(), room)?;
-        joined = joined.with(bytes.as_slice())?;
+        joined = with_named(rt, alloc, joined, name.as_slice())?;
     }
     Ok(joined)
 }
 
-/// The bytes of the file with this name, up to so many.
-fn named_bytes(
+/// These files, and after them the file with this name.
+fn with_named(
     rt: &HostRuntime,
     alloc: Global,
+    joined: Joined,
     name: &[u8],
-    most: usize,
-) -> Result<Vec<u8>, FileFault> {
+) -> Result<Joined, FileFault>
+    ensures { IfOk result (λ more. (files : List FileText) → AreJoined files joined → (last : FileText) × AreJoined (files ++ last ∷ []) more) }
+{
     let Ok(path) = str::from_utf8(name) else {
         return Err(unread(alloc, name, ErrorKind::InvalidFilename));
     };
-    match text_at(rt, alloc, path, most) {
-        Ok(bytes) => Ok(bytes),
+    match with_file(rt, joined, path) {
+        Ok(more) => Ok(more),
         Err(error) => Err(unread(alloc, name, error.kind())),
     }
+}
+
+/// These files, and after them the file at this path.
+fn with_file(rt: &HostRuntime, joined: Joined, path: &str) -> io::Result<Joined>
+    ensures { IfOk result (λ more. (files : List FileText) → AreJoined files joined → (last : FileText) × AreJoined (files ++ last ∷ []) more) }
+{
+    let room = READ_LIMIT.saturating_sub(joined.text.as_slice().len());
+    let mut source = Tap::new(Heard::new(File::open(rt, path)?));
+    let joined = joined.with(b"")?;
+    match with_rest(joined, &mut source, room) {
+        Ok(more) => Ok(more),
+        Err(fault) => Err(reason(source, fault)),
+    }
+}
+
+/// The same files, with what the source still has, up to so many bytes, at the end of the last one. The bytes are read into the
+/// text of the files, without memory of their own. It makes an interrupted call again.
+fn with_rest<R: Read>(
+    joined: Joined,
+    source: &mut Tap<R>,
+    most: usize,
+) -> Result<Joined, SourceFault>
+    ensures { IfOk result (λ more. (files : List FileText) (last : FileText) → AreJoined (files ++ last ∷ []) joined → (now : FileText) × AreJoined (files ++ now ∷ []) more) }
+{
+    let mut joined = joined;
+    let mut left = most;
+    let mut chunk = [0u8; CHUNK];
+    'fill: while left > 0 {
+        let room = left.min(CHUNK);
+        match source.read(&mut chunk[..room]) {
+            Ok(0) => return Ok(joined),
+            Ok(count) => {
+                joined = joined.with_more(&chunk[..count])?;
+                left -= count;
+            }
+            Err(_) => {
+                if source.failed() {
+                    return Err(SourceFault::Failed);
+                }
+            }
+        }
+    }
+    Ok(joined)
 }

@@ -143,9 +143,10 @@ fn say_fault(rt: &HostRuntime, alloc: Global, command: &Command, ran: &Ran) {
     }
 }
 
-/// The name of the file that the command is run over.
+/// The name of the file that the command is run over: for `merge`, of the file that the merged one replaces.
 fn file_of(command: &Command) -> &[u8] {
-    match command.words.as_slice().first() {
+    let n = if command.is_named(b"merge") { 1 } else { 0 };
+    match command.words.as_slice().get(n) {
         Some(word) => word.as_slice(),
         None => b"standard input",
     }

@@ -8,6 +8,8 @@ mod answers;
 #[cfg(test)]
 mod examples;
 #[cfg(test)]
+mod insertions;
+#[cfg(test)]
 mod lengths;
 #[cfg(test)]
 mod lists;
@@ -15,6 +17,8 @@ mod lists;
 mod macros;
 #[cfg(test)]
 mod planning;
+#[cfg(test)]
+mod positions;
 #[cfg(test)]
 mod redefinitions;
 #[cfg(test)]

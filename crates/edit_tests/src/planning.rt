@@ -68,7 +68,8 @@ const EDITS: &[Planned] = &[
     },
 ];
 
-fn are_pieces(pieces: &[Piece], changes: &[Change]) -> bool {
+/// Whether the pieces are these changes.
+pub fn are_pieces(pieces: &[Piece], changes: &[Change]) -> bool {
     pieces.len() == changes.len()
         && pieces.iter().zip(changes).all(|(piece, (place, old, new))| {
             piece.place == *place && piece.old.as_slice() == *old && piece.new.as_slice() == *new

@@ -133,7 +133,7 @@ fn asks_with_depth(request: &Request) -> bool
     ensures { IsTrue result → AsksWithDepth request.now }
 {
     match request {
-        Request::Edit(edit) => has_depth(edit),
+        Request::Edit(edit) | Request::Place(_, edit) => has_depth(edit),
         _ => true,
     }
 }

@@ -49,7 +49,7 @@ faults_of_questions =
     ∷ (codes "24", codes "NotUtf8")
     ∷ []
 
--- an edit is refused
+-- an edit is refused, or no edits are found
 abbrev pub faults_of_edits : List Head
 faults_of_edits =
     (codes "31", codes "BadKey")
@@ -63,6 +63,7 @@ faults_of_edits =
     ∷ (codes "39", codes "Referred")
     ∷ (codes "40", codes "WouldMerge")
     ∷ (codes "41", codes "JournalFull")
+    ∷ (codes "46", codes "NoScript")
     ∷ []
 
 -- nothing can be undone or redone, a journal does not fit, or steps do not

@@ -14,7 +14,7 @@ pub(crate) fn faults_of_bytes(word: &[u8]) -> Option<Page>
         return Some(Page {
             number: b"1",
             name: b"Unended",
-            text: b"The file ends inside an entry, macro definition or preamble: a brace, a parenthesis or a quotation mark is never closed.\nThe offset is the file's length.\n\n  $ printf '@misc{' | bibkeep cat\n  bibkeep: 1 Unended at 6\n\nClose it. The mistake is often hundreds of lines earlier, where a closing brace is missing; `GUIDE.md` has a command that\nfinds the entry. In an entry that was opened with `(`, a `)` directly after the key is a byte of the key: write a space\nbefore it.\n",
+            text: b"The file ends inside an entry, macro definition or preamble: a brace, a parenthesis or a quotation mark is never closed.\nThe offset is the file's length. Of the text of an `insert` the message says ` in standard input`: often a part of the entry\nwas not copied.\n\n  $ printf '@misc{' | bibkeep cat\n  bibkeep: 1 Unended at 6\n\nClose it. The mistake is often hundreds of lines earlier, where a closing brace is missing; `GUIDE.md` has a command that\nfinds the entry. In an entry that was opened with `(`, a `)` directly after the key is a byte of the key: write a space\nbefore it.\n",
         });
     }
     if is_asked(word, b"2", b"ExpectedName") {
@@ -70,14 +70,14 @@ pub(crate) fn faults_of_limits(word: &[u8]) -> Option<Page>
         return Some(Page {
             number: b"8",
             name: b"TextTooLong",
-            text: b"With its macros expanded, the text of a field, a definition or a preamble has more than 1,048,576 bytes. When a file is\nopened, the offset is the first byte of the first such value; an edit or import that would make such a text is refused\nwithout an offset. `cat` does not expand macros, so it never says 8.\n\n  $ (printf '@misc{a, t = {'; head -c 1048577 /dev/zero | tr '\\0' x; printf '}}\\n') > long.bib\n  $ bibkeep check long.bib\n  bibkeep: 8 TextTooLong at 13\n  $ bibkeep cat long.bib | wc -c\n  1048594\n\nWrite a shorter text. Look for a chain of macros in which each contains the one before it twice, and for a closing\ndelimiter that is missing where the text should end.\n",
+            text: b"With its macros expanded, the text of a field, a definition or a preamble has more than 1,048,576 bytes. When a file is\nopened, the offset is the first byte of the first such value; an edit, an import or an insertion that would make such a text is\nrefused without an offset. `cat` does not expand macros, so it never says 8. If several files are read as one, a macro may be\ndefined in an earlier file; the message names the file with the value that is too long.\n\n  $ (printf '@misc{a, t = {'; head -c 1048577 /dev/zero | tr '\\0' x; printf '}}\\n') > long.bib\n  $ bibkeep check long.bib\n  bibkeep: 8 TextTooLong at 13\n  $ bibkeep cat long.bib | wc -c\n  1048594\n\nWrite a shorter text. Look for a chain of macros in which each contains the one before it twice, and for a closing\ndelimiter that is missing where the text should end.\n",
         });
     }
     if is_asked(word, b"9", b"FileTooLong") {
         return Some(Page {
             number: b"9",
             name: b"FileTooLong",
-            text: b"A file has more than 16,777,216 bytes, which is the offset; or an edit would make it so long, without an offset. `edit`\nand `import` report 9 for their input too, with the same message: check the size of the file and of the input. Of an aux\nfile the message names it: `bibkeep: 9 FileTooLong at 16777216 in paper.aux`. The output of `extract` can be longer than the\nfile, by a line feed for each item; if that is too long, the message has no offset.\n\n  $ head -c 16777217 /dev/zero | bibkeep cat\n  bibkeep: 9 FileTooLong at 16777216\n\nSplit the file.\n",
+            text: b"A file has more than 16,777,216 bytes, which is the offset; or an edit would make it so long, without an offset. `edit`,\n`import` and `insert` report 9 for their input too, with the same message: check the size of the file and of the input. Of an aux\nfile the message names it: `bibkeep: 9 FileTooLong at 16777216 in paper.aux`. If several files are read as one, the limit is for\nall of them together, with eleven bytes for each file after the first. The message then names the first file that ends past\nthe limit, even if that file is short, and the offset is how many bytes were left for it. The output of `extract` can be\nlonger than the file, by a line feed for each item; if that is too long, the message has no offset.\n\n  $ head -c 16777217 /dev/zero | bibkeep cat\n  bibkeep: 9 FileTooLong at 16777216\n\nSplit the file.\n",
         });
     }
     if is_asked(word, b"10", b"Memory") {
@@ -146,7 +146,7 @@ pub(crate) fn faults_of_questions(word: &[u8]) -> Option<Page>
     None
 }
 
-/// The page on one of these faults, if the word names one: an edit is refused.
+/// The page on one of these faults, if the word names one: an edit is refused, or no edits are found.
 pub(crate) fn faults_of_edits(word: &[u8]) -> Option<Page>
     ensures { option_map head_of result ≡ find (is_asked word.now) faults_of_edits }
 {
@@ -175,35 +175,35 @@ pub(crate) fn faults_of_edits(word: &[u8]) -> Option<Page>
         return Some(Page {
             number: b"34",
             name: b"BadPosition",
-            text: b"The position is greater than the number of items. For `move`, it is greater than the number of the other items.\n\n  $ printf '%s\\t%s\\t%s\\t%s\\n' add 4 misc x | bibkeep edit f.bib\n  applied 0\n  bibkeep: line 1: 34 BadPosition\n\n`bibkeep check F` prints the number of items; that number is the end of the file.\n",
+            text: b"The position is greater than the number of items. For `move`, it is greater than the number of the other items. For `insert`, it\nmay also be no position at all: a position is a number of 1 to 9 digits, `end`, `before:KEY` or `after:KEY`. In an edit, what is\nno position is 71.\n\n  $ printf '%s\\t%s\\t%s\\t%s\\n' add 4 misc x | bibkeep edit f.bib\n  applied 0\n  bibkeep: line 1: 34 BadPosition\n\n`bibkeep check F` prints the number of items; that number is the end of the file, and so is `end`. The text of an `insert` comes\nfrom standard input: a file's name after F is taken for a position.\n\n  $ printf '@misc{x}\\n' > entry.bib; bibkeep insert f.bib entry.bib < entry.bib\n  bibkeep: 34 BadPosition\n",
         });
     }
     if is_asked(word, b"35", b"NotFound") {
         return Some(Page {
             number: b"35",
             name: b"NotFound",
-            text: b"There is nothing to change. No entry has the key, or the entry has no such field to drop; the file does not define the\nmacro (a month is not a definition); or no part of a value is the text to introduce.\n\n  $ printf '%s\\t%s\\t%s\\n' drop b t | bibkeep edit f.bib\n  applied 0\n  bibkeep: line 1: 35 NotFound\n\n`bibkeep cite F '*'` lists the keys. A field that `show` prints may be inherited: change it in the parent.\n",
+            text: b"There is nothing to change. No entry has the key, or the entry has no such field to drop; the file does not define the\nmacro (a month is not a definition); or no part of a value is the text to introduce. Or no entry has the key of a position\n`before:KEY` or `after:KEY`, in an edit or an `insert`.\n\n  $ printf '%s\\t%s\\t%s\\n' drop b t | bibkeep edit f.bib\n  applied 0\n  bibkeep: line 1: 35 NotFound\n\n`bibkeep cite F '*'` lists the keys. A field that `show` prints may be inherited: change it in the parent.\n",
         });
     }
     if is_asked(word, b"36", b"Ambiguous") {
         return Some(Page {
             number: b"36",
             name: b"Ambiguous",
-            text: b"Two entries have the key; or the entry has the field twice, or a new entry would; or the macro is defined twice.\n\n  $ printf '%s\\t%s\\t%s\\t%s\\n' set a t 3 | bibkeep edit f.bib\n  applied 0\n  bibkeep: line 1: 36 Ambiguous\n\n`bibkeep check F` reports repeated entries and extra fields. It does not report a macro that is defined twice, but\n`grep -in '@string' F` lists the definitions. Remove one of the two by hand.\n",
+            text: b"Two entries have the key; or the entry has the field twice, or a new entry would; or the macro is defined twice. The key may also\nbe that of a position, `before:KEY` or `after:KEY`: give the number of items then.\n\n  $ printf '%s\\t%s\\t%s\\t%s\\n' set a t 3 | bibkeep edit f.bib\n  applied 0\n  bibkeep: line 1: 36 Ambiguous\n\n`bibkeep check F` reports repeated entries and extra fields. It does not report a macro that is defined twice, but\n`grep -in '@string' F` lists the definitions. Remove one of the two by hand.\n",
         });
     }
     if is_asked(word, b"37", b"KeyInUse") {
         return Some(Page {
             number: b"37",
             name: b"KeyInUse",
-            text: b"Another entry has the new key already, or another new entry would get it. An import says so too.\n\n`rename-key` also refuses a key that no entry has but that a crossref names. The renamed entry would become a parent, and\nyou did not ask for that. `add` and `import` accept such a key: the new entry becomes the parent.\n\n  $ printf '%s\\t%s\\t%s\\t%s\\n' add 0 misc C | bibkeep edit f.bib\n  applied 0\n  bibkeep: line 1: 37 KeyInUse\n\nChoose another key.\n",
+            text: b"Another entry has the new key already, or another new entry would get it. An import says so too, and `insert` of a text with a key\nthat the file has, or that two of its entries have.\n\n`rename-key` also refuses a key that no entry has but that a crossref names. The renamed entry would become a parent, and\nyou did not ask for that. `add` and `import` accept such a key: the new entry becomes the parent.\n\n  $ printf '%s\\t%s\\t%s\\t%s\\n' add 0 misc C | bibkeep edit f.bib\n  applied 0\n  bibkeep: line 1: 37 KeyInUse\n\nChoose another key. In the text of an `insert`, change it before the text goes in: `bibkeep edit entry.bib rename-key C C2`.\n",
         });
     }
     if is_asked(word, b"38", b"NameInUse") {
         return Some(Page {
             number: b"38",
             name: b"NameInUse",
-            text: b"The new name of a macro is that of a month, or the file defines or uses it already, so some text would change.\n`rename-macro` may change the case of a name.\n\n  $ printf '@string{m = 1}@misc{a, t = m}' > macro.bib\n  $ printf '%s\\t%s\\t%s\\n' rename-macro m jan | bibkeep edit macro.bib\n  applied 0\n  bibkeep: line 1: 38 NameInUse\n\nChoose a name that the file does not have.\n",
+            text: b"The new name of a macro is that of a month, or the file defines or uses it already, so some text would change.\n`rename-macro` may change the case of a name.\n\n  $ printf '@string{m = 1}@misc{a, t = m}' > macro.bib\n  $ printf '%s\\t%s\\t%s\\n' rename-macro m jan | bibkeep edit macro.bib\n  applied 0\n  bibkeep: line 1: 38 NameInUse\n\nChoose a name that the file does not have.\n\n`insert` says 38 of a text that defines a macro that the file defines, even if both definitions say the same.\n\n  $ printf '@string{M = 1}@misc{x, t = m}' | bibkeep insert macro.bib\n  bibkeep: 38 NameInUse\n\nLeave the definition out of the text, if both say the same. Else give the macro another name in the text:\n`bibkeep edit entry.bib rename-macro M M2`.\n",
         });
     }
     if is_asked(word, b"39", b"Referred") {
@@ -217,14 +217,21 @@ pub(crate) fn faults_of_edits(word: &[u8]) -> Option<Page>
         return Some(Page {
             number: b"40",
             name: b"WouldMerge",
-            text: b"The edit would turn text into something else:\n\n- The text before and after an entry that you remove or move, or a definition that `inline` removes, would join, and begin\n  an item or continue the word `comment`.\n- In an entry that was opened with `(`, the closing `)` would become a byte of the key.\n\n  $ printf 'x @book@misc{a}{b}' > merged.bib; printf '%s\\t%s\\n' remove a | bibkeep edit merged.bib\n  applied 0\n  bibkeep: line 1: 40 WouldMerge\n  $ printf '@misc(a, t = 1)' > round.bib; printf '%s\\t%s\\t%s\\n' drop a t | bibkeep edit round.bib\n  applied 0\n  bibkeep: line 1: 40 WouldMerge\n\nChange the text between the items by hand. Before a `)`, write white space:\n\n  $ printf '@misc(a, t = 1 )' > spaced.bib; printf '%s\\t%s\\t%s\\n' drop a t | bibkeep edit spaced.bib; cat spaced.bib; echo\n  applied 1\n  @misc(a )\n",
+            text: b"The edit would turn text into something else:\n\n- The text before and after an entry that you remove or move, or a definition that `inline` removes, would join, and begin\n  an item or continue the word `comment`.\n- In an entry that was opened with `(`, the closing `)` would become a byte of the key.\n- The text before the position of an `insert` would join the beginning of its text, and begin an item.\n- In a `merge`, text of one side would join text of the other, and begin an item.\n\n  $ printf 'x @book@misc{a}{b}' > merged.bib; printf '%s\\t%s\\n' remove a | bibkeep edit merged.bib\n  applied 0\n  bibkeep: line 1: 40 WouldMerge\n  $ printf '@misc(a, t = 1)' > round.bib; printf '%s\\t%s\\t%s\\n' drop a t | bibkeep edit round.bib\n  applied 0\n  bibkeep: line 1: 40 WouldMerge\n  $ printf '@misc{a} x @book' > joined.bib; printf '{b}' | bibkeep insert joined.bib after:a --print\n  bibkeep: 40 WouldMerge\n  $ printf '@misc{a}\\n' > base.bib; printf '@misc{a}\\n@book\\n' > ours.bib; printf '@misc{a}\\n{b}\\n' > theirs.bib\n  $ bibkeep merge base.bib ours.bib theirs.bib\n  bibkeep: 40 WouldMerge\n\nChange the text between the items by hand. Before a `)`, write white space:\n\n  $ printf '@misc(a, t = 1 )' > spaced.bib; printf '%s\\t%s\\t%s\\n' drop a t | bibkeep edit spaced.bib; cat spaced.bib; echo\n  applied 1\n  @misc(a )\n",
         });
     }
     if is_asked(word, b"41", b"JournalFull") {
         return Some(Page {
             number: b"41",
             name: b"JournalFull",
-            text: b"The journal would have more than 65,535 steps, or more than 67,174,399 bytes of steps. An edit or an import discards the\nundone steps, so these do not count.\n\n  $ printf '@misc{a, t = 1}\\n' > full.bib\n  $ yes \"$(printf 'set\\ta\\tt\\t2')\" | head -n 65536 > script\n  $ bibkeep edit full.bib < script\n  applied 65535\n  bibkeep: line 65536: 41 JournalFull\n\n`bibkeep forget F` starts a new journal; earlier changes can then no longer be undone. Then run the rest of the script.\nThe edits between `group LABEL` and `end` are one step.\n",
+            text: b"The journal would have more than 65,535 steps, or more than 67,174,399 bytes of steps. An edit, an import or an insertion\ndiscards the undone steps, so these do not count.\n\n  $ printf '@misc{a, t = 1}\\n' > full.bib\n  $ yes \"$(printf 'set\\ta\\tt\\t2')\" | head -n 65536 > script\n  $ bibkeep edit full.bib < script\n  applied 65535\n  bibkeep: line 65536: 41 JournalFull\n\n`bibkeep forget F` starts a new journal; earlier changes can then no longer be undone. Then run the rest of the script.\nThe edits between `group LABEL` and `end` are one step.\n",
+        });
+    }
+    if is_asked(word, b"46", b"NoScript") {
+        return Some(Page {
+            number: b"46",
+            name: b"NoScript",
+            text: b"`diff OLD NEW` found no edits that lead from OLD to NEW. The message names the key of the entry at fault, if there is such an\nentry and it has a key. One of these is most often the reason:\n\n- an entry that NEW has more, or that it has less, has no key;\n- two entries of one file have the same key;\n- a new key is not one that an edit writes (31);\n- a field whose text changes is twice in its entry;\n- an entry that goes holds apart texts that would be read as an item without it (40).\n\n  $ printf '@misc{a}\\n@misc{A}\\n' > twice.bib; printf '@misc{a}\\n' > once.bib\n  $ bibkeep diff twice.bib once.bib\n  bibkeep: 46 NoScript in a\n  $ printf '@misc{a}\\n@misc{}\\n' | bibkeep diff once.bib /dev/stdin\n  bibkeep: 46 NoScript\n\nCorrect the entry in both files, or in the one that has it. `bibkeep lint` finds repeated entries and fields. `diff -u OLD NEW`\nshows the lines that differ.\n",
         });
     }
     None
@@ -245,21 +252,21 @@ pub(crate) fn faults_of_journals(word: &[u8]) -> Option<Page>
         return Some(Page {
             number: b"52",
             name: b"NothingToRedo",
-            text: b"There are fewer changes to redo than you ask for. `redo F --steps N` then redoes them all and prints how many they were.\nAn edit or an import discards what could be redone.\n\n  $ bibkeep redo new.bib\n  redone 0\n  bibkeep: 52 NothingToRedo\n\n`bibkeep log F` lists the changes.\n",
+            text: b"There are fewer changes to redo than you ask for. `redo F --steps N` then redoes them all and prints how many they were.\nAn edit, an import or an insertion discards what could be redone.\n\n  $ bibkeep redo new.bib\n  redone 0\n  bibkeep: 52 NothingToRedo\n\n`bibkeep log F` lists the changes.\n",
         });
     }
     if is_asked(word, b"53", b"BadJournal") {
         return Some(Page {
             number: b"53",
             name: b"BadJournal",
-            text: b"`F.bibkeep` is not a journal; the offset is where it goes wrong (`FORMAT-JOURNAL.md`). Nothing is done.\n\n  $ printf 'not a journal\\n' > new.bib.bibkeep; bibkeep log new.bib\n  bibkeep: 53 BadJournal at 0\n\nRestore the journal from a copy; or start a new one by `bibkeep forget F`, or `--new-journal` of `edit` and `import`.\n",
+            text: b"`F.bibkeep` is not a journal; the offset is where it goes wrong (`FORMAT-JOURNAL.md`). Nothing is done.\n\n  $ printf 'not a journal\\n' > new.bib.bibkeep; bibkeep log new.bib\n  bibkeep: 53 BadJournal at 0\n\nRestore the journal from a copy; or start a new one by `bibkeep forget F`, or `--new-journal` of `edit`, `import` and `insert`.\n",
         });
     }
     if is_asked(word, b"54", b"JournalMismatch") {
         return Some(Page {
             number: b"54",
             name: b"JournalMismatch",
-            text: b"`F.bibkeep` is a journal, but not of this file as it is now. You, your editor, `git checkout` or another program changed\nthe file since the last run of bibkeep. Or a run was interrupted after it stored the file and before it stored the\njournal. Nothing is done, because undo would change the wrong bytes.\n\n  $ printf '@misc{a, t = 1}\\n' > kept.bib\n  $ printf '%s\\t%s\\t%s\\t%s\\n' set a t 2 | bibkeep edit kept.bib\n  applied 1\n  $ printf '@misc{b}\\n' >> kept.bib\n  $ bibkeep undo kept.bib; echo status $?\n  bibkeep: 54 JournalMismatch\n  status 1\n  $ bibkeep forget kept.bib; bibkeep log kept.bib\n  $ cat kept.bib\n  @misc{a, t = 2}\n  @misc{b}\n\nTo keep your change, start a new journal by `bibkeep forget F`, or by `edit` or `import` with `--new-journal`. Undo then\nreaches back to this moment. To undo the earlier changes instead, first restore the file exactly as the last run left it.\n",
+            text: b"`F.bibkeep` is a journal, but not of this file as it is now. You, your editor, `git checkout` or another program changed\nthe file since the last run of bibkeep. Or a run was interrupted after it stored the file and before it stored the\njournal. Nothing is done, because undo would change the wrong bytes.\n\n  $ printf '@misc{a, t = 1}\\n' > kept.bib\n  $ printf '%s\\t%s\\t%s\\t%s\\n' set a t 2 | bibkeep edit kept.bib\n  applied 1\n  $ printf '@misc{b}\\n' >> kept.bib\n  $ bibkeep undo kept.bib; echo status $?\n  bibkeep: 54 JournalMismatch\n  status 1\n  $ bibkeep forget kept.bib; bibkeep log kept.bib\n  $ cat kept.bib\n  @misc{a, t = 2}\n  @misc{b}\n\nTo keep your change, start a new journal by `bibkeep forget F`, or by `edit`, `import` or `insert` with `--new-journal`. Undo then\nreaches back to this moment. To undo the earlier changes instead, first restore the file exactly as the last run left it.\n",
         });
     }
     if is_asked(word, b"55", b"StepOpen") {
@@ -315,7 +322,7 @@ pub(crate) fn faults_of_inputs(word: &[u8]) -> Option<Page>
         return Some(Page {
             number: b"71",
             name: b"BadScript",
-            text: b"A line of the script is neither an edit nor `group` or `end`; or the words after the file are not an edit. One of these is\nthe reason:\n\n- the first word is unknown;\n- there are too few or too many words, or a field has no value;\n- a position is not 1 to 9 digits;\n- the depth of `regenerate` is not one digit from 1 to 8;\n- `group` or `end` is the edit after the file;\n- a label has more than 255 bytes or a control byte.\n\n  $ printf 'set a t 3\\n' | bibkeep edit f.bib\n  applied 0\n  bibkeep: line 1: 71 BadScript\n  $ printf 'set a t 3\\n' | cat -t\n  set a t 3\n\nMost often the words are separated by spaces and not by tabs, or `printf` changed a backslash. `cat -t` shows a tab as `^I`.\n`bibkeep help edit` lists the lines.\n",
+            text: b"A line of the script is neither an edit nor `group` or `end`; or the words after the file are not an edit. One of these is\nthe reason:\n\n- the first word is unknown;\n- there are too few or too many words, or a field has no value;\n- a position is not 1 to 9 digits, `end`, `before:KEY` or `after:KEY`;\n- the depth of `regenerate` is not one digit from 1 to 8;\n- `group` or `end` is the edit after the file;\n- a label has more than 255 bytes or a control byte.\n\n  $ printf 'set a t 3\\n' | bibkeep edit f.bib\n  applied 0\n  bibkeep: line 1: 71 BadScript\n  $ printf 'set a t 3\\n' | cat -t\n  set a t 3\n\nMost often the words are separated by spaces and not by tabs, or `printf` changed a backslash. `cat -t` shows a tab as `^I`.\n`bibkeep help edit` lists the lines.\n",
         });
     }
     None

@@ -1,2 +1,3 @@
 pub mod UnitTexts
 pub mod NothingLost
+pub mod ConflictsTold

@@ -5,6 +5,7 @@ use Rattle.bib_spec.specs.Reading.{Reading, bytes_of}
 use Rattle.merge_spec.specs.Units.{Unit, spaced_bytes, first_space, spaced_of}
 use Rattle.merge_spec.specs.ThreeWay.{Outcome, Ours, Theirs, Mixed, Gone, Both, is_left, is_unchanged}
 use Rattle.merge_spec.specs.Merged.{Place, unit_at, is_number, is_merge}
+use Rattle.merge_spec.specs.Conflicts.{conflicts_of, are_both, is_any}
 
 -- the white space before the first unit, and the units with the white space after each, are the file
 abbrev pub units_are_the_file : Type 0
@@ -39,3 +40,7 @@ abbrev pub nothing_of_theirs_is_lost : Type 0
 nothing_of_theirs_is_lost = (base ours theirs : List Unit) (places : List Place) → is_merge base ours theirs places ≡ true →
     (n : ℕ) → n < length theirs →
     list_any (λ p. is_number n p.theirs && is_theirs_kept (unit_at base p.base) (unit_at ours p.ours) (unit_at theirs p.theirs) p.outcome) places ≡ true
+
+-- there is a conflict exactly if both versions of some unit stay: without one, no marker is written
+abbrev pub conflicts_are_all_told : Type 0
+conflicts_are_all_told = (base ours theirs : List Unit) (places : List Place) → is_any (conflicts_of base ours theirs places) ≡ list_any (λ p. are_both p.outcome) places

@@ -166,12 +166,23 @@ may_mix None o t kind key rows = false
 may_mix (Some b) None t kind key rows = false
 may_mix (Some b) (Some o) None kind key rows = false
 
--- What may become of a unit, given its form in the common file, in ours and in theirs. Ours stays if they left the unit, or say
--- what we say. Theirs is taken if we left it. It goes if a side took it away and the other left it. Both stay if each side has
--- changed it, or one has and the other took it away.
+-- ours stays if they left the unit, or say what we say
+abbrev pub may_be_ours : Option Unit → Option Unit → Option Unit → Bool
+may_be_ours b o t = is_some o && (is_unchanged b t || is_unchanged o t)
+
+-- theirs is taken if we left the unit
+abbrev pub may_be_theirs : Option Unit → Option Unit → Option Unit → Bool
+may_be_theirs b o t = is_some t && is_left b o
+
+-- the unit goes if a side took it away and the other left it, or both took it away
+abbrev pub may_go : Option Unit → Option Unit → Option Unit → Bool
+may_go b o t = (is_none o && is_unchanged b t) || (is_none t && is_unchanged b o) || (is_none o && is_none t)
+
+-- What may become of a unit, given its form in the common file, in ours and in theirs. Both stay only if neither ours nor theirs
+-- may be taken and the unit may not go: each side has changed it, or added it, or one has changed it and the other took it away.
 abbrev pub may_become : Option Unit → Option Unit → Option Unit → Outcome → Bool
-may_become b o t Ours = is_some o && (is_unchanged b t || is_unchanged o t)
-may_become b o t Theirs = is_some t && is_left b o
+may_become b o t Ours = may_be_ours b o t
+may_become b o t Theirs = may_be_theirs b o t
 may_become b o t (Mixed kind key rows) = may_mix (entry_of b) (entry_of o) (entry_of t) kind key rows
-may_become b o t Gone = (is_none o && is_unchanged b t) || (is_none t && is_unchanged b o) || (is_none o && is_none t)
-may_become b o t Both = (is_some o || is_some t) && not (is_unchanged o t)
+may_become b o t Gone = may_go b o t
+may_become b o t Both = not (may_be_ours b o t || may_be_theirs b o t || may_go b o t)

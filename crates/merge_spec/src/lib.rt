@@ -10,4 +10,6 @@ pub use examples::{
     fields_are_merged_one_by_one, moved_entries_keep_their_fields,
     removed_entries_go_or_are_in_conflict,
 };
-pub use merges::{no_unit_of_a_side_is_lost, units_make_the_file};
+pub use merges::{
+    each_pair_of_versions_is_a_conflict, no_unit_of_a_side_is_lost, units_make_the_file,
+};

@@ -1,5 +1,5 @@
 -- What a command answers to several files that are read as one. (dialect)
-use Rattle.std.specs.Prelude.{ℕ, ◌≡◌, ◌≢◌, ◌<◌, ◌-◌, false, nat_lt, List, [], length, Some, slice_get, slice_index_or, IsSomeAnd}
+use Rattle.std.specs.Prelude.{ℕ, ◌≡◌, ◌≢◌, ◌-◌, List, [], length, Some, slice_index_or, IsSomeAnd}
 use Rattle.bib_spec.specs.Text.{Text}
 use Rattle.bib_spec.specs.Reading.{Reading}
 use Rattle.bib_spec.specs.Texts.{Opens}
@@ -17,9 +17,9 @@ use Rattle.bib_answers.specs.Check.{check_answer_without}
 use Rattle.bib_answers.specs.Raw.{json_answer_in}
 use Rattle.bib_answers.specs.Lint.{files_answer, IsFaultAnswer}
 use Rattle.bib_answers.specs.Names.{AnswersNames}
+use Rattle.bib_answers.specs.Messages.{refusal_in}
 use Rattle.bib_answers.specs.Outcome.{answer_of}
 use Rattle.bib_run.specs.Answers.{question_answer, key_word, key_words, template_word}
-use Rattle.shelf_run.specs.Messages.{refusal_in}
 
 -- What a command answers to what files with these names and bytes say together. `check` counts no seam, and `json` names the file of
 -- each entry; else it is the answer to one file with the text of all.

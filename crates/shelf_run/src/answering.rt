@@ -133,10 +133,7 @@ fn json_of(
     ensures { IfOk result (λ answer. (texts : List FileText) → AreJoined texts shelf.now → OfReading shelf.now.text (λ r. answer ≡ shelf_answer Json command.now names.now texts r)) }
 {
     let db = shelf.database();
-    let Ok(text) = db.bytes() else {
-        return Err(AllocError);
-    };
-    let files = NamedFiles::new(names, text.as_slice(), shelf.spans());
+    let files = NamedFiles::new(names, db, shelf.spans());
     json_in(
         alloc,
         db,

@@ -17,7 +17,7 @@ use std::alloc::Global;
 use std::io::Write;
 
 /// Runs a command that names other files over all its files, which have these names, in the order in which they are read, and
-/// its output. The files were read by the caller; their text is kept once, and once more for `lint` and `json`. It makes interrupted
+/// its output. The files were read by the caller; their text is kept once, and once more for `lint`. It makes interrupted
 /// calls again, up to 100 times. It runs out of memory only before anything is written.
 pub fn run_shelf<W: Write>(
     alloc: Global,

@@ -29,8 +29,9 @@ pub fn answer_lint(
     let (text, spans) = (joined.text.as_slice(), joined.spans.as_slice());
     match open_beside(alloc, joined) {
         Ok(shelf) => {
-            let files = NamedFiles::new(names, text, spans);
-            lint_in(alloc, shelf.database(), &files, ignored, cited)
+            let db = shelf.database();
+            let files = NamedFiles::new(names, db, shelf.spans());
+            lint_in(alloc, db, &files, ignored, cited)
         }
         Err(fault) => {
             let read = ReadFault {

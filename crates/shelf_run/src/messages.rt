@@ -2,9 +2,9 @@
 
 ghost use Rattle.std.specs.Prelude.{◌≡◌, ◌≢◌, [], slice_index_or, IfOk};
 ghost use Rattle.bib_answers.specs.Outcome.{answer_of};
-ghost use Rattle.shelf_run.specs.Messages.{refusal_in};
+ghost use Rattle.bib_answers.specs.Messages.{refusal_in};
 
-use bib_answers::{Answer, fault_name, refused};
+use bib_answers::{Answer, refusal_in, refused};
 use bib_scan::Text;
 use bib_shelf::ShelfFault;
 use std::alloc::{AllocError, Global};
@@ -19,22 +19,6 @@ pub fn name_of(names: &[Text], i: usize) -> &[u8]
     }
 }
 
-/// The message of a fault in the file with this name, a line.
-fn refusal_in(alloc: Global, fault: ShelfFault, name: &[u8]) -> Result<Text, AllocError>
-    ensures { IfOk result (λ line. line ≡ refusal_in fault.kind fault.place name.now) }
-{
-    let said = format!(in alloc;
-        "bibkeep: {} {} at {} in ",
-        fault.kind,
-        fault_name(fault.kind),
-        fault.place
-    )?;
-    let mut line = said.into_bytes();
-    line.extend_from_slice(name)?;
-    line.extend_from_slice(b"\n")?;
-    Ok(Text::from_vec(line))
-}
-
 /// The answer whose message says why files with these names are not read as one. If memory ran out, there is no answer.
 pub fn unread_in(alloc: Global, names: &[Text], fault: ShelfFault) -> Result<Answer, AllocError>
     ensures { IfOk result (λ answer. (fault.kind ≢ 10) × (answer ≡ answer_of [] (refusal_in fault.kind fault.place (slice_index_or names.now fault.file [])) 1)) }
@@ -42,6 +26,7 @@ pub fn unread_in(alloc: Global, names: &[Text], fault: ShelfFault) -> Result<Ans
     if fault.is_memory() {
         return Err(AllocError);
     }
-    let message = refusal_in(alloc, fault, name_of(names, fault.file))?;
+    let name = name_of(names, fault.file);
+    let message = refusal_in(alloc, fault.kind, fault.place, name)?;
     Ok(refused(alloc, message))
 }

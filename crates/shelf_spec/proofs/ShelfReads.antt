@@ -21,11 +21,11 @@ seam_clean front clean (suc zero) = refl
 seam_clean front clean (suc (suc zero)) = refl
 seam_clean front clean (suc (suc (suc p))) = clean p
 
-seam_ends : (front : Text) → does_not_begin_with is_type_byte (codes " %\n" ++ front) ≡ true
+pub seam_ends : (front : Text) → does_not_begin_with is_type_byte (codes " %\n" ++ front) ≡ true
 unfolding is_name_byte
 seam_ends front = refl
 
-seam_is_comment : IsComment seam_head
+pub seam_is_comment : IsComment seam_head
 unfolding is_name_byte is_name_within
 seam_is_comment = record { head = record { space_before_type = λ k d lt. absurd (not-suc-le-zero lt); type_name = refl }; type_name = refl }
 

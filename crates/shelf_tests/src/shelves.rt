@@ -98,9 +98,24 @@ fn a_fault_is_of_the_file_that_has_it(rt: HostRuntime) -> Result<(), Fail> {
     let alloc = rt.alloc();
     let unended: &[&[u8]] = &[b"@misc{a,t=p}\n", b"@misc{"];
     assert!(rt; refused(alloc, unended) == Some((1, Some(6), Some(1))));
+    Ok(())
+}
+
+#[test]
+fn a_file_that_ends_inside_an_item_is_not_valid(rt: HostRuntime) -> Result<(), Fail> {
+    let alloc = rt.alloc();
     // The bytes that would end the value are in another file.
-    let open: &[&[u8]] = &[b"@misc{a,t={", b"}}"];
-    assert!(rt; refused(alloc, open) == Some((1, Some(11), Some(0))));
+    assert!(rt; refused(alloc, &[b"@misc{a,t={", b"}}"]) == Some((1, Some(11), Some(0))));
+    assert!(rt; refused(alloc, &[b"@misc{a,t=\"x", b"y\"}"]) == Some((1, Some(12), Some(0))));
+    let among: &[&[u8]] = &[b"@misc{b}", b"@misc{a,t={x", b"", b"y}}", b"@misc{c}"];
+    assert!(rt; refused(alloc, among) == Some((1, Some(12), Some(1))));
+    // Its fault comes before the faults that all files have together.
+    assert!(rt;
+        refused(alloc, &[b"@misc{a,t={", b"}} @misc{b c}"]) == Some((1, Some(11), Some(0)))
+    );
+    assert!(rt;
+        refused(alloc, &[FIRST, LONGER, b"@misc{a,t={", b"}}"]) == Some((1, Some(11), Some(2)))
+    );
     Ok(())
 }
 

@@ -185,13 +185,13 @@ fn saved(session: &Session<Paged>) -> Result<Saved, AllocError>
     }
 }
 
-/// How many changes the request is: one if it is an edit.
+/// How many changes the request is: one if it is an edit or puts a text in.
 fn changes_of(request: &Request) -> usize
     ensures value { result ≡ changes_of request.now }
     ensures small { result ≤ 1 }
 {
     match request {
-        Request::Edit(_) => 1,
+        Request::Edit(_) | Request::Place(_, _) | Request::Insert(_, _) => 1,
         _ => 0,
     }
 }

@@ -1,4 +1,4 @@
-use Rattle.bib_answers.proofs.Words.{◌≡◌, ◌∙◌, ◌<◌, false, Option, Some, length, slice_get, sym, ap, option_map_or, Text, EntryTexts, Reading, entries_of}
+use Rattle.bib_answers.proofs.Words.{◌≡◌, ◌∙◌, ◌<◌, false, Option, Some, length, slice_get, sym, ap, option_map_or, Text, EntryTexts, entries_of}
 use Rattle.std.proofs.Common.{option_and_then, arith}
 use Rattle.bib_spec.specs.Texts.{is_empty}
 use Rattle.bib_spec.specs.Records.{crossref_text}

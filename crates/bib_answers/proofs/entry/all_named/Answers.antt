@@ -1,5 +1,4 @@
-use Rattle.bib_answers.proofs.Words.{◌<◌, All, length, rules, sym, subst, ◌≡◌, ◌∙◌, true, cond-true, entries_of}
-use Rattle.bib_spec.specs.Records.{cites_all}
+use Rattle.bib_answers.proofs.Words.{◌<◌, All, length, sym, subst, entries_of}
 use Rattle.bib_answers.proofs.CitedNumbers.{listed_within, found_within}
 use Rattle.bib_answers.proofs.entry.all_named.Goals as goal
 

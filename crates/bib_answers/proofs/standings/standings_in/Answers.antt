@@ -1,11 +1,11 @@
-use Rattle.bib_answers.proofs.Words.{◌==◌, ◌≡◌, ◌∙◌, ◌++◌, ◌∷◌, ◌<◌, ◌≤◌, [], List, Some, length, refl, ap}
+use Rattle.bib_answers.proofs.Words.{◌==◌, ◌≡◌, ◌∙◌, ◌++◌, ◌∷◌, ◌<◌, ◌≤◌, [], List, Some, length, refl, sym, ap, subst}
 use Rattle.std.proofs.Common.{arith, slice_index_or}
 use Rattle.entry_json.specs.declared.raw.Standing.{Standing}
 use Rattle.bib_scan.specs.Layout.{start_of}
 use Rattle.bib_shelf.specs.Joined.{located_in}
 use Rattle.bib_answers.specs.Lint.{place_at}
 use Rattle.bib_answers.specs.Raw.{file_at, number_in_file, standing, standing_of}
-use Rattle.bib_answers.proofs.StandingItems.{standings_more, standings_all, counted_none, counted_more, item_numbered, item_small}
+use Rattle.bib_answers.proofs.StandingItems.{standings_more, standings_all, IsCounted, counted_none, counted_more, item_numbered, item_small}
 use Rattle.bib_answers.proofs.standings.standings_in.Goals as goal
 
 pub item_place-place-requires : goal.item_place-place-requires
@@ -26,7 +26,7 @@ overflow_add-count c =
     omega (arith, small, c.items-test.true)
 
 pub items-init : goal.items-init
-items-init c = (c.first_known.ensures.known (slice_index_or c.args.files.now.files 0 []), λ r reads. (c.in_ok-all.ensures.items, counted_none c.args.files.now.files r))
+items-init c = (c.first_reached-reached.ensures.known c.args.files.now.files, λ r reads. (c.in_ok-all.ensures.items, subst (λ k. IsCounted c.args.files.now.files r 0 k 0) (sym c.first_reached-reached.ensures.file) (counted_none c.args.files.now.files r)))
 
 pub items-preserved : goal.items-preserved
 items-preserved c = (

@@ -1,4 +1,4 @@
-use Rattle.bib_answers.proofs.Words.{◌≡◌, ◌∙◌, Bool, true, false, List, [], ◌∷◌, refl, sym, ap, list_any, Part, part_view}
+use Rattle.bib_answers.proofs.Words.{◌≡◌, ◌∙◌, Bool, true, false, refl, sym, ap, list_any, part_view}
 use Rattle.std.proofs.Common.{◌||◌}
 use Rattle.bib_answers.specs.Lint.{is_use}
 use Rattle.bib_answers.proofs.text_findings.has_uses.Goals as goal

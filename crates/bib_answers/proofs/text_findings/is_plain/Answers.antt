@@ -1,20 +1,18 @@
-use Rattle.bib_answers.proofs.Words.{◌≡◌, ◌∙◌, Bool, true, false, rules, sym, ap, false≢true, Text}
-use Rattle.std.specs.Char.{is_ascii}
-use Rattle.std.specs.List.{list_all}
-use Rattle.bib_persons.specs.Persons.{has_names}
-use Rattle.bib_answers.proofs.PlainTexts.{plain_text}
+use Rattle.bib_answers.proofs.Words.{◌≡◌, ◌∙◌, ◌≤◌, true, sym, ap, subst, false≢true}
+use Rattle.std.proofs.Common.{count_by}
+use Rattle.bib_spec.specs.Tree.{value_bytes}
+use Rattle.bib_spec.specs.Text.{Text}
+use Rattle.bib_persons.specs.Persons.{is_comma_byte, has_names}
+use Rattle.bib_answers.specs.Plain.{is_other}
+use Rattle.bib_answers.proofs.PlainTexts.{plain_own}
 use Rattle.bib_answers.proofs.text_findings.is_plain.Goals as goal
 
-pub returns-else-not-has_names : goal.returns-else-not-has_names
-returns-else-not-has_names c few field is =
-    let spelled : c.is_ascii.result ≡ true = search rules in
-    let said : c.is_ascii-else-not-is_ascii.result ≡ true = search rules in
-    plain_text field c.args.raw.now (ap (list_all is_ascii) is ∙ sym c.is_ascii.ensures ∙ spelled) (sym c.is_ascii-else-not-is_ascii.ensures ∙ said) (λ named. c.has_few_commas.ensures few)
+pub returns-then-has_names : goal.returns-then-has_names
+returns-then-has_names c few field macros is v ok same =
+    plain_own field macros v (ap (count_by is_other) is ∙ c.is_ascii.ensures c.if-not-is_ascii.false) (ap (count_by is_other) same ∙ c.is_ascii-2.ensures c.if-not-is_ascii-2.false)
+    (λ named raw most. c.has_few_commas.ensures few raw (subst (λ (t : Text). count_by is_comma_byte raw ≤ count_by is_comma_byte t) same most))
 
-pub returns-then-not-has_names : goal.returns-then-not-has_names
-returns-then-not-has_names c none field is =
-    let spelled : c.is_ascii.result ≡ true = search rules in
-    let said : c.is_ascii-else-not-is_ascii.result ≡ true = search rules in
-    let other : c.has_names.result ≡ false = search rules in
-    plain_text field c.args.raw.now (ap (list_all is_ascii) is ∙ sym c.is_ascii.ensures ∙ spelled) (sym c.is_ascii-else-not-is_ascii.ensures ∙ said)
-    (λ named. absurd (false≢true (sym other ∙ c.has_names.ensures ∙ sym (ap has_names is) ∙ named)))
+pub returns : goal.returns
+returns c yes_it field macros is v ok same =
+    plain_own field macros v (ap (count_by is_other) is ∙ c.is_ascii.ensures c.if-not-is_ascii.false) (ap (count_by is_other) same ∙ c.is_ascii-2.ensures c.if-not-is_ascii-2.false)
+    (λ named. absurd (false≢true (sym c.if-has_names.false ∙ c.has_names.ensures ∙ sym (ap has_names is) ∙ named)))

@@ -1,4 +1,4 @@
-use Rattle.std.proofs.Common.{◌≡◌, ◌∙◌, ap, List, map, sym, subst}
+use Rattle.std.proofs.Common.{◌∙◌, ap, List, map, subst}
 use Rattle.std.proofs.lemmas.Result.{IfOk-weaker, IfErr-weaker, on_ok_weaker, err_from_is_err_and}
 use Rattle.bib_spec.specs.Text.{Text}
 use Rattle.bib_shelf.specs.Faults.{AreAccepted, RefusesShelf, no_memory}

@@ -1,0 +1,3 @@
+pub mod GatheredTexts
+pub mod EntryPairs
+pub mod LedAlready

@@ -1,0 +1,5 @@
+use Rattle.std.proofs.Common.{length}
+use Rattle.bib_diff.proofs.setting.add_drops.Given as goal
+
+abbrev pub decreases-fields : goal.decreases-fields
+decreases-fields l = length l.rest

@@ -1,0 +1,4 @@
+pub mod Texts
+pub mod Agreeing
+pub mod Faults
+pub mod Leading

@@ -1,0 +1,16 @@
+//! The merge of two files that come from a common one, unit by unit. It knows units and places; it knows no edits. Whatever places
+//! it finds, it answers them only if they are a merge of the definitions: it promises the bytes of such a merge, which is a file
+//! that opens, and its conflicts, or why there is none.
+#![tactic(auto)]
+
+mod fault;
+mod merging;
+mod ordering;
+mod outcomes;
+mod pairing;
+mod spacing;
+
+pub use bib_places::{Change, Conflict};
+pub use bib_units::Label;
+pub use fault::MergeFault;
+pub use merging::{Merged, merge};

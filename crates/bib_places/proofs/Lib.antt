@@ -1,0 +1,5 @@
+pub mod UnitsMet
+pub mod Marks
+pub mod Counting
+pub mod Lists
+pub mod Joining

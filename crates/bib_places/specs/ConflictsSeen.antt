@@ -1,0 +1,17 @@
+-- The conflicts of a merge in the code.
+use Rattle.merge_spec.specs.Conflicts as conflicts
+use Rattle.bib_units.specs.Labels.{label_seen}
+use Rattle.bib_places.specs.declared.conflicts.Change.{Change}
+use Rattle.bib_places.specs.declared.conflicts.Change.TheVariants as change
+use Rattle.bib_places.specs.declared.conflicts.Conflict.{Conflict}
+
+-- how two sides came into conflict, as the definitions have it
+abbrev pub change_seen : Change → conflicts.Change
+change_seen change.Changed = conflicts.Changed
+change_seen change.BothAdded = conflicts.BothAdded
+change_seen change.RemovedByOurs = conflicts.RemovedByOurs
+change_seen change.RemovedByTheirs = conflicts.RemovedByTheirs
+
+-- a conflict, as the definitions have it
+abbrev pub conflict_seen : Conflict → conflicts.Conflict
+conflict_seen c = record { change = change_seen c.change; label = label_seen c.label }

@@ -1,0 +1,4 @@
+pub mod PlacesSeen
+pub mod ConflictsSeen
+pub mod LabelCodes
+pub mod Tallies

@@ -1,0 +1,22 @@
+//! The places of a merge of three open files: which unit of each file meets there, and what becomes of them. It knows units and
+//! what they say; it finds no places. It promises that a list of places that it lets pass is a merge of the definitions, the
+//! bytes of such a list, and its conflicts.
+#![tactic(auto)]
+
+mod becoming;
+mod checking;
+mod codes;
+mod conflicts;
+mod once;
+mod place;
+mod seldom;
+mod settled;
+mod side;
+mod tally;
+mod writing;
+
+pub use checking::is_merge;
+pub use conflicts::{Change, Conflict, conflicts_of};
+pub use place::{File, Outcome, Place};
+pub use side::Side;
+pub use writing::merged_text;

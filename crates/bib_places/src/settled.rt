@@ -1,0 +1,173 @@
+//! Whether the units that meet at a place may become what becomes of them.
+
+ghost use Rattle.std.specs.Prelude.{◌≡◌, ◌&&◌, true, Option, IfOk};
+ghost use Rattle.std.specs.List.{list_all};
+ghost use Rattle.bib_spec.specs.Text.{is_space};
+ghost use Rattle.bib_spec.specs.Reading.{Reading};
+ghost use Rattle.bib_store.specs.Readings.{OfReading};
+ghost use Rattle.merge_spec.specs.Units.{Unit, units_of};
+ghost use Rattle.merge_spec.specs.ThreeWay.{Ours as OursBecomes, Theirs as TheirsBecomes, Gone as GoneBecomes, Both as BothBecomes, may_become};
+ghost use Rattle.merge_spec.specs.Merged.{share_label, is_settled};
+ghost use Rattle.bib_places.specs.PlacesSeen.{MaySee, IsSide, outcome_seen, place_seen};
+
+use crate::becoming::{is_left, is_unchanged, share_label};
+use crate::place::{Outcome, Place};
+use crate::side::{Side, unit_at};
+use bib_store::{Database, ItemList};
+use bib_text::is_space;
+use bib_units::UnitView;
+use std::alloc::{AllocError, Global};
+
+/// The units that meet at a place.
+#[derive(Clone, Copy)]
+pub(crate) struct Met<'a> {
+    pub base: Option<UnitView<'a>>,
+    pub ours: Option<UnitView<'a>>,
+    pub theirs: Option<UnitView<'a>>,
+}
+
+/// Whether ours may stay.
+fn may_be_ours<L: ItemList>(
+    alloc: Global,
+    base: &Database<L>,
+    ours: &Database<L>,
+    theirs: &Database<L>,
+    met: Met<'_>,
+) -> Result<bool, AllocError>
+    ensures { IfOk result (λ may. OfReading base.now (λ rb. OfReading ours.now (λ ro. OfReading theirs.now (λ rt. (b o t : Option Unit)
+        → MaySee rb met.entry.base b → MaySee ro met.entry.ours o → MaySee rt met.entry.theirs t → may ≡ may_become b o t OursBecomes)))) }
+{
+    if met.ours.is_none() {
+        return Ok(false);
+    }
+    if is_unchanged(alloc, base, met.base, theirs, met.theirs)? {
+        return Ok(true);
+    }
+    let same = is_unchanged(alloc, ours, met.ours, theirs, met.theirs)?;
+    Ok(same)
+}
+
+/// Whether theirs may be taken.
+fn may_be_theirs(met: Met<'_>) -> bool
+    ensures { (rb ro rt : Reading) (b o t : Option Unit) → MaySee rb met.entry.base b → MaySee ro met.entry.ours o → MaySee rt met.entry.theirs t → result ≡ may_become b o t TheirsBecomes }
+{
+    met.theirs.is_some() && is_left(met.base, met.ours)
+}
+
+/// Whether the unit may go.
+fn may_go<L: ItemList>(
+    alloc: Global,
+    base: &Database<L>,
+    ours: &Database<L>,
+    theirs: &Database<L>,
+    met: Met<'_>,
+) -> Result<bool, AllocError>
+    ensures { IfOk result (λ may. OfReading base.now (λ rb. OfReading ours.now (λ ro. OfReading theirs.now (λ rt. (b o t : Option Unit)
+        → MaySee rb met.entry.base b → MaySee ro met.entry.ours o → MaySee rt met.entry.theirs t → may ≡ may_become b o t GoneBecomes)))) }
+{
+    match (met.ours, met.theirs) {
+        (None, None) => Ok(true),
+        (None, Some(_)) => {
+            let same = is_unchanged(alloc, base, met.base, theirs, met.theirs)?;
+            Ok(same)
+        }
+        (Some(_), None) => {
+            let same = is_unchanged(alloc, base, met.base, ours, met.ours)?;
+            Ok(same)
+        }
+        (Some(_), Some(_)) => Ok(false),
+    }
+}
+
+/// Whether both may stay: nothing else may become of the unit.
+fn may_be_both<L: ItemList>(
+    alloc: Global,
+    base: &Database<L>,
+    ours: &Database<L>,
+    theirs: &Database<L>,
+    met: Met<'_>,
+) -> Result<bool, AllocError>
+    ensures { IfOk result (λ may. OfReading base.now (λ rb. OfReading ours.now (λ ro. OfReading theirs.now (λ rt. (b o t : Option Unit)
+        → MaySee rb met.entry.base b → MaySee ro met.entry.ours o → MaySee rt met.entry.theirs t → may ≡ may_become b o t BothBecomes)))) }
+{
+    if may_be_ours(alloc, base, ours, theirs, met)? {
+        return Ok(false);
+    }
+    if may_be_theirs(met) {
+        return Ok(false);
+    }
+    let goes = may_go(alloc, base, ours, theirs, met)?;
+    Ok(!goes)
+}
+
+/// Whether the units may become this.
+fn may_become<L: ItemList>(
+    alloc: Global,
+    base: &Database<L>,
+    ours: &Database<L>,
+    theirs: &Database<L>,
+    met: Met<'_>,
+    outcome: Outcome,
+) -> Result<bool, AllocError>
+    ensures { IfOk result (λ may. OfReading base.now (λ rb. OfReading ours.now (λ ro. OfReading theirs.now (λ rt. (b o t : Option Unit)
+        → MaySee rb met.entry.base b → MaySee ro met.entry.ours o → MaySee rt met.entry.theirs t → may ≡ may_become b o t (outcome_seen outcome))))) }
+{
+    match outcome {
+        Outcome::Ours => {
+            let may = may_be_ours(alloc, base, ours, theirs, met)?;
+            Ok(may)
+        }
+        Outcome::Theirs => Ok(may_be_theirs(met)),
+        Outcome::Gone => {
+            let may = may_go(alloc, base, ours, theirs, met)?;
+            Ok(may)
+        }
+        Outcome::Both => {
+            let may = may_be_both(alloc, base, ours, theirs, met)?;
+            Ok(may)
+        }
+    }
+}
+
+/// Whether the units have one label.
+fn have_one_label(met: Met<'_>) -> bool
+    ensures { (rb ro rt : Reading) (b o t : Option Unit) → MaySee rb met.entry.base b → MaySee ro met.entry.ours o → MaySee rt met.entry.theirs t
+        → result ≡ (share_label b o && share_label b t && share_label o t) }
+{
+    share_label(met.base, met.ours)
+        && share_label(met.base, met.theirs)
+        && share_label(met.ours, met.theirs)
+}
+
+/// Whether the text is white space.
+fn is_white(text: &[u8]) -> bool
+    ensures { result ≡ list_all is_space text.now }
+{
+    text.iter().all(|byte| is_space(*byte))
+}
+
+/// Whether the units of a place have one label and may become what becomes of them, and only white space follows.
+pub(crate) fn is_settled<L: ItemList>(
+    alloc: Global,
+    base: &Side<'_, L>,
+    ours: &Side<'_, L>,
+    theirs: &Side<'_, L>,
+    place: &Place<'_>,
+) -> Result<bool, AllocError>
+    ensures { IfOk result (λ settled. settled ≡ true → (rb ro rt : Reading) → IsSide rb base.now.db.now base.now.units.now → IsSide ro ours.now.db.now ours.now.units.now
+        → IsSide rt theirs.now.db.now theirs.now.units.now → is_settled (units_of rb) (units_of ro) (units_of rt) (place_seen place.now) ≡ true) }
+{
+    let met = Met {
+        base: unit_at(base.units, place.base),
+        ours: unit_at(ours.units, place.ours),
+        theirs: unit_at(theirs.units, place.theirs),
+    };
+    if !have_one_label(met) {
+        return Ok(false);
+    }
+    if !is_white(place.space) {
+        return Ok(false);
+    }
+    let may = may_become(alloc, base.db, ours.db, theirs.db, met, place.outcome)?;
+    Ok(may)
+}

@@ -1,8 +1,0 @@
-use Rattle.std.proofs.Common.{List}
-use Rattle.bib_spec.specs.Text.{Text}
-use Rattle.bib_shelf.specs.Joined.{AreJoined}
-use Rattle.bib_shelf.specs.Faults.{HaveTheirPlaces}
-use Rattle.bib_shelf.proofs.opening.read_each.Given as goal
-
-abbrev pub invariant-files : goal.invariant-files
-invariant-files l = (files : List Text) → AreJoined files l.joined → HaveTheirPlaces files l.i

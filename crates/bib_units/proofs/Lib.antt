@@ -1,0 +1,2 @@
+pub mod UnitsAdded
+pub mod UnitsOfFile

@@ -1,0 +1,2 @@
+pub mod SoughtFields
+pub mod SameRecords
