@@ -395,6 +395,30 @@ def ring(count):
     return b"".join(b"@misc{k%d,f%d={%d},crossref={k%d}}\n" % (n, n % 16, n, (n + 1) % count) for n in range(count))
 
 
+def shared_entry(n, year, note):
+    return ("@article{key%07d,\n  author = {%s},\n  title = {%s},\n  journal = {Letters %d},\n  year = %d,\n  note = {%s}\n}\n\n"
+            % (n, NAMES[n % len(NAMES)], text_of(n, 5), n % 97, year, note)).encode()
+
+
+def shared(count, changes=0, side="ours"):
+    """So many entries of 160 bytes, of which one side has changed so many, all over the file: the year of half of them, and the note of
+    the others. The sides change other entries, but for one in ten, of which one changes the year and the other the note."""
+    changed = {} if not changes else {
+        n * (count // changes) + (1 if side == "theirs" and n % 10 else 0): (n + (side == "theirs")) % 2 for n in range(changes)}
+    return b"".join(
+        shared_entry(n, 1950 + n % 75 + (100 if changed.get(n) == 0 else 0), side if changed.get(n) == 1 else "kept") for n in range(count))
+
+
+def reversed_lines(text):
+    """The lines of the text from the last to the first."""
+    return b"".join(reversed(text.splitlines(True)))
+
+
+def lines_of_entries(count, name=b"k%d"):
+    """So many entries of a line each, of which each has the key by this rule."""
+    return b"".join(b"@misc{%s, t = %d}\n" % (name % n if b"%" in name else name, n) for n in range(count))
+
+
 def faults(size):
     """Entries of 32 bytes, a line each, in each of which a comma is missing."""
     return b"".join(b"@misc{k%07d, t = {x} u = 20}\n" % n for n in range(size // 32))
@@ -459,6 +483,17 @@ CONTENTS = {
     "faults 16": lambda: faults(16000000),
     "cited 8": lambda: cited(8000000),
     "cited 16": lambda: cited(16000000),
+    "shared 50": lambda: shared(50000),
+    "shared 100": lambda: shared(100000),
+    **{"%s %d" % (side, count): lambda side=side, count=count: shared(1000 * count, 10 * count, side)
+       for side in ("ours", "theirs") for count in (50, 100)},
+    "shared 10": lambda: shared(10000),
+    "changed 10": lambda: shared(10000, 1000),
+    **{"%s %d" % (name, count): lambda make=make, count=count: make(1000 * count)
+       for name, make in (("in order", lines_of_entries), ("in opposite order", lambda count: reversed_lines(lines_of_entries(count))),
+                          ("of one name", lambda count: lines_of_entries(count, b"k")),
+                          ("of one name from the end", lambda count: reversed_lines(lines_of_entries(count, b"k"))))
+       for count in (50, 100)},
     "great": great,
     "authors 50000": lambda: authors(50000),
     "authors 100000": lambda: authors(100000),
