@@ -12,11 +12,12 @@ ghost use Rattle.bib_merge.specs.Merges.{IsMergeOf, fault_in, IsOpeningFault, Is
 
 use crate::fault::MergeFault;
 use crate::ordering::order;
-use crate::outcomes::outcome_of;
+use crate::outcomes::{Becomes, outcome_of};
 use crate::pairing::{In, Row, Rows};
 use crate::spacing::{Units, chosen, space_after, unit};
+use bib_fields::add_mixed;
 use bib_parents::lost_keys;
-use bib_places::{Conflict, File, Outcome, Place, Side, conflicts_of, is_merge, merged_text};
+use bib_places::{Conflict, File, Mix, Outcome, Place, Side, conflicts_of, is_merge, merged_text};
 use bib_scan::{ReadFault, Text};
 use bib_store::{Database, Flat};
 use bib_units::{FileUnits, UnitView, units_of};
@@ -63,7 +64,7 @@ fn fault_in(file: File, fault: ReadFault) -> MergeFault
 #[derive(Drop)]
 struct Found {
     rows: Vec<Row>,
-    outcomes: Vec<Outcome>,
+    outcomes: Vec<Becomes>,
     order: Vec<usize>,
 }
 
@@ -74,7 +75,7 @@ fn outcomes_of(
     ours: &Side<'_, Flat>,
     theirs: &Side<'_, Flat>,
     rows: &[Row],
-) -> Result<Vec<Outcome>, AllocError> {
+) -> Result<Vec<Becomes>, AllocError> {
     let mut outcomes = Vec::new(alloc);
     'rows: for k in 0..rows.len() {
         let row = rows[k];
@@ -86,15 +87,19 @@ fn outcomes_of(
     Ok(outcomes)
 }
 
+/// Whether a unit goes.
+fn is_gone(becomes: &Becomes) -> bool {
+    match becomes {
+        Becomes::Gone => true,
+        Becomes::Ours | Becomes::Theirs | Becomes::Mixed(_) | Becomes::Both => false,
+    }
+}
+
 /// Which rows are kept.
-fn kept_rows(alloc: Global, outcomes: &[Outcome]) -> Result<Vec<bool>, AllocError> {
+fn kept_rows(alloc: Global, outcomes: &[Becomes]) -> Result<Vec<bool>, AllocError> {
     let mut kept = Vec::new(alloc);
     'outcomes: for k in 0..outcomes.len() {
-        let is_kept = match outcomes[k] {
-            Outcome::Gone => false,
-            Outcome::Ours | Outcome::Theirs | Outcome::Both => true,
-        };
-        kept.push(is_kept)?;
+        kept.push(!is_gone(&outcomes[k]))?;
     }
     Ok(kept)
 }
@@ -127,7 +132,7 @@ fn find(
 }
 
 /// The place of a row.
-fn place<'a>(row: Row, outcome: Outcome, space: &'a [u8]) -> Place<'a> {
+fn place<'a>(row: Row, outcome: Outcome<'a>, space: &'a [u8]) -> Place<'a> {
     Place {
         base: row.base,
         ours: row.ours,
@@ -137,10 +142,26 @@ fn place<'a>(row: Row, outcome: Outcome, space: &'a [u8]) -> Place<'a> {
     }
 }
 
+/// What becomes of a unit, as a place has it.
+fn outcome(becomes: &Becomes) -> Outcome<'_> {
+    match becomes {
+        Becomes::Ours => Outcome::Ours,
+        Becomes::Theirs => Outcome::Theirs,
+        Becomes::Mixed(found) => Outcome::Mixed(Mix {
+            kind: found.kind,
+            key: found.key,
+            space: found.space.as_slice(),
+            rows: found.rows.as_slice(),
+        }),
+        Becomes::Gone => Outcome::Gone,
+        Becomes::Both => Outcome::Both,
+    }
+}
+
 /// The row with this number, and what becomes of it.
-fn row_at(found: &Found, n: usize) -> Option<(Row, Outcome)> {
+fn row_at(found: &Found, n: usize) -> Option<(Row, Outcome<'_>)> {
     match (found.rows.get(n), found.outcomes.get(n)) {
-        (Some(row), Some(outcome)) => Some((*row, *outcome)),
+        (Some(row), Some(becomes)) => Some((*row, outcome(becomes))),
         _ => None,
     }
 }
@@ -156,7 +177,7 @@ fn next_row(found: &Found, k: usize) -> Option<Row> {
 fn places_of<'a>(
     alloc: Global,
     units: Units<'a>,
-    found: &Found,
+    found: &'a Found,
 ) -> Result<Vec<Place<'a>>, AllocError> {
     let mut places = Vec::new(alloc);
     'order: for k in 0..found.order.len() {
@@ -167,66 +188,100 @@ fn places_of<'a>(
     }
     'rows: for k in 0..found.rows.len() {
         if let Some((row, outcome)) = row_at(found, k) {
-            if outcome == Outcome::Gone {
-                places.push(place(row, outcome, b""))?;
+            match outcome {
+                Outcome::Gone => places.push(place(row, outcome, b""))?,
+                Outcome::Ours | Outcome::Theirs | Outcome::Mixed(_) | Outcome::Both => {}
             }
         }
     }
     Ok(places)
 }
 
-/// Adds the body of the item that a unit is, if it is one.
-fn add_body<'a>(
-    bodies: &mut Vec<&'a [u8]>,
-    db: &'a Database<Flat>,
-    unit: Option<UnitView<'a>>,
-) -> Result<(), AllocError> {
-    let Some(unit) = unit else {
-        return Ok(());
-    };
-    if let Some(n) = unit.item {
-        if n < db.item_count() {
-            bodies.push(db.item(n).body())?;
-        }
+/// The body of the item that a unit is, if it is one.
+fn body_of<'a>(db: &'a Database<Flat>, unit: Option<UnitView<'_>>) -> Option<&'a [u8]> {
+    let n = unit?.item?;
+    if n < db.item_count() {
+        return Some(db.item(n).body());
     }
-    Ok(())
+    None
 }
 
-/// The bodies of the items that are left in a merge.
-fn bodies_left<'a>(
+/// The bytes of a merged entry.
+fn mixed_body(
     alloc: Global,
-    ours: &Side<'a, Flat>,
-    theirs: &Side<'a, Flat>,
+    ours: &Side<'_, Flat>,
+    o: Option<UnitView<'_>>,
+    theirs: &Side<'_, Flat>,
+    t: Option<UnitView<'_>>,
+    mix: Mix<'_>,
+) -> Result<Vec<u8>, AllocError> {
+    let mut body = Vec::new(alloc);
+    if let (Some(o), Some(t)) = (o, t) {
+        if let (Some(n), Some(m)) = (o.item, t.item) {
+            add_mixed(alloc, &mut body, ours.db, n, theirs.db, m, mix)?;
+        }
+    }
+    Ok(body)
+}
+
+/// Items of a file, of which the first were met.
+#[derive(Drop)]
+struct Met<'a> {
+    db: &'a Database<Flat>,
+    count: usize,
+    // whether each had the body that it was to have
+    as_wanted: bool,
+}
+
+impl<'a> Met<'a> {
+    /// Meets the next item, which is to have this body; nothing if there is no body.
+    fn meet(&mut self, body: Option<&[u8]>) {
+        if let Some(body) = body {
+            let n = self.count;
+            self.as_wanted = self.as_wanted
+                && n < self.db.item_count()
+                && self.db.item(n).body() == body;
+            self.count = n.saturating_add(1);
+        }
+    }
+
+    /// Whether all items were met, and each had the body that it was to have.
+    fn is_all(&self) -> bool {
+        self.as_wanted && self.count == self.db.item_count()
+    }
+}
+
+/// Whether the items of a file are those that are left in a merge, with the same bodies.
+fn has_items(
+    alloc: Global,
+    db: &Database<Flat>,
+    ours: &Side<'_, Flat>,
+    theirs: &Side<'_, Flat>,
     places: &[Place<'_>],
-) -> Result<Vec<&'a [u8]>, AllocError> {
-    let mut bodies = Vec::new(alloc);
+) -> Result<bool, AllocError> {
+    let mut met = Met {
+        db,
+        count: 0,
+        as_wanted: true,
+    };
     'places: for k in 0..places.len() {
         let o = unit(ours.units, places[k].ours);
         let t = unit(theirs.units, places[k].theirs);
         match places[k].outcome {
-            Outcome::Ours => add_body(&mut bodies, ours.db, o)?,
-            Outcome::Theirs => add_body(&mut bodies, theirs.db, t)?,
+            Outcome::Ours => met.meet(body_of(ours.db, o)),
+            Outcome::Theirs => met.meet(body_of(theirs.db, t)),
+            Outcome::Mixed(mix) => {
+                let body = mixed_body(alloc, ours, o, theirs, t, mix)?;
+                met.meet(Some(body.as_slice()));
+            }
             Outcome::Gone => {}
             Outcome::Both => {
-                add_body(&mut bodies, ours.db, o)?;
-                add_body(&mut bodies, theirs.db, t)?;
+                met.meet(body_of(ours.db, o));
+                met.meet(body_of(theirs.db, t));
             }
         }
     }
-    Ok(bodies)
-}
-
-/// Whether the items of a file have these bodies.
-fn has_bodies(db: &Database<Flat>, bodies: &[&[u8]]) -> bool {
-    if db.item_count() != bodies.len() {
-        return false;
-    }
-    'bodies: for k in 0..bodies.len() {
-        if k >= db.item_count() || db.item(k).body() != bodies[k] {
-            return false;
-        }
-    }
-    true
+    Ok(met.is_all())
 }
 
 /// Why the merged text is not opened.
@@ -241,15 +296,21 @@ fn merged_fault(fault: ReadFault) -> MergeFault
     }
 }
 
-/// Opens the merged text, if its items have these bodies.
-fn opening(alloc: Global, text: &[u8], bodies: &[&[u8]]) -> Result<Database<Flat>, MergeFault>
+/// Opens the merged text, if its items are those that are left in a merge of these places.
+fn opening(
+    alloc: Global,
+    text: &[u8],
+    ours: &Side<'_, Flat>,
+    theirs: &Side<'_, Flat>,
+    places: &[Place<'_>],
+) -> Result<Database<Flat>, MergeFault>
     ensures opened { IfOk result (λ db. db ≡ text.now) }
     ensures opens { OnOk result (IsOpenable text.now) }
     ensures fault { IfErr result IsMergedFault }
 {
     match Database::open_bytes(alloc, text, Flat::new(alloc)) {
         Ok(db) => {
-            if !has_bodies(&db, bodies) {
+            if !has_items(alloc, &db, ours, theirs, places)? {
                 return Err(MergeFault::WouldMerge);
             }
             Ok(db)
@@ -329,10 +390,9 @@ fn merge_sides<'a>(
         return Err(MergeFault::WouldMerge);
     }
     let space = chosen(of_base.space, of_ours.space, of_theirs.space);
-    let text = merged_text(alloc, ours.units, theirs.units, space, places)?;
-    let bodies = bodies_left(alloc, &ours, &theirs, places)?;
-    let db = opening(alloc, text.as_slice(), bodies.as_slice())?;
-    let conflicts = conflicts_of(alloc, base_units, our_units, their_units, places)?;
+    let text = merged_text(alloc, &ours, &theirs, space, places)?;
+    let db = opening(alloc, text.as_slice(), &ours, &theirs, places)?;
+    let conflicts = conflicts_of(alloc, b, base_units, o, our_units, t, their_units, places)?;
     let lost = lost_keys(alloc, o, t, &db)?;
     Ok(Merged {
         text,

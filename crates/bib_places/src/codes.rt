@@ -78,13 +78,14 @@ fn label_in<'a>(unit: Option<UnitView<'a>>) -> Option<Label<'a>>
 fn label_left<'a>(
     ours: Option<UnitView<'a>>,
     theirs: Option<UnitView<'a>>,
-    outcome: Outcome,
+    outcome: Outcome<'_>,
 ) -> Option<Label<'a>>
-    ensures { (ro rt : Reading) (o t : Option Unit) → MaySee ro ours.entry o → MaySee rt theirs.entry t → option_map label_seen result ≡ label_left o t (outcome_seen outcome) }
+    ensures { (ro rt : Reading) (o t : Option Unit) → MaySee ro ours.entry o → MaySee rt theirs.entry t → option_map label_seen result ≡ label_left o t (outcome_seen o t outcome.entry) }
 {
     match outcome {
         Outcome::Ours => label_in(ours),
         Outcome::Theirs => label_in(theirs),
+        Outcome::Mixed(_) => label_in(ours),
         Outcome::Gone => None,
         Outcome::Both => match ours {
             Some(unit) => Some(unit.label),
@@ -115,7 +116,7 @@ pub(crate) fn codes_left(
     places: &[Place<'_>],
 ) -> Result<Vec<Text>, AllocError>
     ensures { IfOk result (λ codes. (ro rt : Reading) (uo ut : List Spaced) → AreUnits ro ours.now uo → AreUnits rt theirs.now ut
-        → codes.items ≡ map code_of (labels_left (map (λ s. s.unit) uo) (map (λ s. s.unit) ut) (map place_seen places.now))) }
+        → codes.items ≡ map code_of (labels_left (map (λ s. s.unit) uo) (map (λ s. s.unit) ut) (map (place_seen (map (λ s. s.unit) uo) (map (λ s. s.unit) ut)) places.now))) }
 {
     let mut codes = Vec::new(alloc);
     'places: for k in 0..places.len() {

@@ -53,7 +53,7 @@ pub(crate) fn are_seldom(
     places: &[Place<'_>],
 ) -> Result<bool, AllocError>
     ensures { IfOk result (λ seldom. seldom ≡ true → (ro rt : Reading) (uo ut : List Spaced) → AreUnits ro ours.now uo → AreUnits rt theirs.now ut
-        → are_seldom (map (λ s. s.unit) uo) (map (λ s. s.unit) ut) (map place_seen places.now) ≡ true) }
+        → are_seldom (map (λ s. s.unit) uo) (map (λ s. s.unit) ut) (map (place_seen (map (λ s. s.unit) uo) (map (λ s. s.unit) ut)) places.now) ≡ true) }
 {
     let merged = codes_left(alloc, ours, theirs, places)?;
     let of_ours = codes_of(alloc, ours)?;

@@ -9,6 +9,6 @@ pub returns : goal.returns
 returns c seldom ro rt uo ut are_o are_t =
     let ours = map (λ s. s.unit) uo in
     let theirs = map (λ s. s.unit) ut in
-    seldom-of c.as_slice.result.now c.as_slice-2.result.now c.as_slice-3.result.now (labels_left ours theirs (map place_seen c.args.places.now)) (map label_of ours) (map label_of theirs)
+    seldom-of c.as_slice.result.now c.as_slice-2.result.now c.as_slice-3.result.now (labels_left ours theirs (map (place_seen ours theirs) c.args.places.now)) (map label_of ours) (map label_of theirs)
     (c.as_slice.ensures.value ∙ c.in_ok-merged.ensures ro rt uo ut are_o are_t) (c.as_slice-2.ensures.value ∙ c.in_ok-of_ours.ensures ro uo are_o) (c.as_slice-3.ensures.value ∙ c.in_ok-of_theirs.ensures rt ut are_t)
     (c.in_ok-seldom.ensures seldom)
