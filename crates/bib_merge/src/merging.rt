@@ -251,6 +251,32 @@ impl<'a> Met<'a> {
     }
 }
 
+/// Meets the items of a place, in their order.
+fn meet_place(
+    alloc: Global,
+    met: &mut Met<'_>,
+    ours: &Side<'_, Flat>,
+    theirs: &Side<'_, Flat>,
+    place: &Place<'_>,
+) -> Result<(), AllocError> {
+    let o = unit(ours.units, place.ours);
+    let t = unit(theirs.units, place.theirs);
+    match place.outcome {
+        Outcome::Ours => met.meet(body_of(ours.db, o)),
+        Outcome::Theirs => met.meet(body_of(theirs.db, t)),
+        Outcome::Mixed(mix) => {
+            let body = mixed_body(alloc, ours, o, theirs, t, mix)?;
+            met.meet(Some(body.as_slice()));
+        }
+        Outcome::Gone => {}
+        Outcome::Both => {
+            met.meet(body_of(ours.db, o));
+            met.meet(body_of(theirs.db, t));
+        }
+    }
+    Ok(())
+}
+
 /// Whether the items of a file are those that are left in a merge, with the same bodies.
 fn has_items(
     alloc: Global,
@@ -265,21 +291,7 @@ fn has_items(
         as_wanted: true,
     };
     'places: for k in 0..places.len() {
-        let o = unit(ours.units, places[k].ours);
-        let t = unit(theirs.units, places[k].theirs);
-        match places[k].outcome {
-            Outcome::Ours => met.meet(body_of(ours.db, o)),
-            Outcome::Theirs => met.meet(body_of(theirs.db, t)),
-            Outcome::Mixed(mix) => {
-                let body = mixed_body(alloc, ours, o, theirs, t, mix)?;
-                met.meet(Some(body.as_slice()));
-            }
-            Outcome::Gone => {}
-            Outcome::Both => {
-                met.meet(body_of(ours.db, o));
-                met.meet(body_of(theirs.db, t));
-            }
-        }
+        meet_place(alloc, &mut met, ours, theirs, &places[k])?;
     }
     Ok(met.is_all())
 }
