@@ -11,6 +11,7 @@ ghost use Rattle.bib_places.specs.ConflictsSeen.{conflict_seen};
 ghost use Rattle.bib_merge.specs.Merges.{IsMergeOf, fault_in, IsOpeningFault, IsMergedFault, IsMergeFault};
 
 use crate::fault::MergeFault;
+use crate::mixing::Found as MixFound;
 use crate::ordering::order;
 use crate::outcomes::{Becomes, outcome_of};
 use crate::pairing::{In, Row, Rows};
@@ -60,7 +61,7 @@ fn fault_in(file: File, fault: ReadFault) -> MergeFault
     }
 }
 
-/// The rows of three files, what becomes of each, and their order.
+/// The rows of three files, what becomes of each, and the order of those that stay.
 #[derive(Drop)]
 struct Found {
     rows: Vec<Row>,
@@ -68,27 +69,28 @@ struct Found {
     order: Vec<usize>,
 }
 
-/// What becomes of each row.
+/// What becomes of each row. The entries that are merged field by field are added to these.
 fn outcomes_of(
     alloc: Global,
+    mixes: &mut Vec<MixFound>,
     base: &Side<'_, Flat>,
     ours: &Side<'_, Flat>,
     theirs: &Side<'_, Flat>,
     rows: &[Row],
 ) -> Result<Vec<Becomes>, AllocError> {
-    let mut outcomes = Vec::new(alloc);
+    let mut outcomes = Vec::with_capacity(alloc, rows.len())?;
     'rows: for k in 0..rows.len() {
         let row = rows[k];
         let b = unit(base.units, row.base);
         let o = unit(ours.units, row.ours);
         let t = unit(theirs.units, row.theirs);
-        outcomes.push(outcome_of(alloc, base, b, ours, o, theirs, t)?)?;
+        outcomes.push(outcome_of(alloc, mixes, base, b, ours, o, theirs, t)?)?;
     }
     Ok(outcomes)
 }
 
 /// Whether a unit goes.
-fn is_gone(becomes: &Becomes) -> bool {
+fn is_gone(becomes: Becomes) -> bool {
     match becomes {
         Becomes::Gone => true,
         Becomes::Ours | Becomes::Theirs | Becomes::Mixed(_) | Becomes::Both => false,
@@ -99,14 +101,15 @@ fn is_gone(becomes: &Becomes) -> bool {
 fn kept_rows(alloc: Global, outcomes: &[Becomes]) -> Result<Vec<bool>, AllocError> {
     let mut kept = Vec::new(alloc);
     'outcomes: for k in 0..outcomes.len() {
-        kept.push(!is_gone(&outcomes[k]))?;
+        kept.push(!is_gone(outcomes[k]))?;
     }
     Ok(kept)
 }
 
-/// Looks for a merge.
+/// Looks for a merge. The entries that are merged field by field are added to these.
 fn find(
     alloc: Global,
+    mixes: &mut Vec<MixFound>,
     base: &Side<'_, Flat>,
     ours: &Side<'_, Flat>,
     theirs: &Side<'_, Flat>,
@@ -115,7 +118,7 @@ fn find(
     let _of_base = rows.add(base.units, In::Base)?;
     let of_ours = rows.add(ours.units, In::Ours)?;
     let of_theirs = rows.add(theirs.units, In::Theirs)?;
-    let outcomes = outcomes_of(alloc, base, ours, theirs, rows.rows.as_slice())?;
+    let outcomes = outcomes_of(alloc, mixes, base, ours, theirs, rows.rows.as_slice())?;
     let kept = kept_rows(alloc, outcomes.as_slice())?;
     let order = order(
         alloc,
@@ -142,26 +145,34 @@ fn place<'a>(row: Row, outcome: Outcome<'a>, space: &'a [u8]) -> Place<'a> {
     }
 }
 
-/// What becomes of a unit, as a place has it.
-fn outcome(becomes: &Becomes) -> Outcome<'_> {
+/// A merged entry, as a place has it.
+fn mixed(found: &MixFound) -> Outcome<'_> {
+    Outcome::Mixed(Mix {
+        kind: found.kind,
+        key: found.key,
+        space: found.space.as_slice(),
+        rows: found.rows.as_slice(),
+    })
+}
+
+/// What becomes of a unit, as a place has it; of these entries some are merged.
+fn outcome(mixes: &[MixFound], becomes: Becomes) -> Outcome<'_> {
     match becomes {
         Becomes::Ours => Outcome::Ours,
         Becomes::Theirs => Outcome::Theirs,
-        Becomes::Mixed(found) => Outcome::Mixed(Mix {
-            kind: found.kind,
-            key: found.key,
-            space: found.space.as_slice(),
-            rows: found.rows.as_slice(),
-        }),
+        Becomes::Mixed(n) => match mixes.get(n) {
+            Some(found) => mixed(found),
+            None => Outcome::Both,
+        },
         Becomes::Gone => Outcome::Gone,
         Becomes::Both => Outcome::Both,
     }
 }
 
 /// The row with this number, and what becomes of it.
-fn row_at(found: &Found, n: usize) -> Option<(Row, Outcome<'_>)> {
+fn row_at<'a>(found: &Found, mixes: &'a [MixFound], n: usize) -> Option<(Row, Outcome<'a>)> {
     match (found.rows.get(n), found.outcomes.get(n)) {
-        (Some(row), Some(becomes)) => Some((*row, outcome(becomes))),
+        (Some(row), Some(becomes)) => Some((*row, outcome(mixes, *becomes))),
         _ => None,
     }
 }
@@ -169,25 +180,25 @@ fn row_at(found: &Found, n: usize) -> Option<(Row, Outcome<'_>)> {
 /// The row that comes next in the order.
 fn next_row(found: &Found, k: usize) -> Option<Row> {
     let next = found.order.get(k.saturating_add(1))?;
-    let (row, _) = row_at(found, *next)?;
-    Some(row)
+    found.rows.get(*next).copied()
 }
 
 /// The places of what was found: those that are kept, in their order, and then those that go.
 fn places_of<'a>(
     alloc: Global,
     units: Units<'a>,
-    found: &'a Found,
+    found: &Found,
+    mixes: &'a [MixFound],
 ) -> Result<Vec<Place<'a>>, AllocError> {
-    let mut places = Vec::new(alloc);
+    let mut places = Vec::with_capacity(alloc, found.rows.len())?;
     'order: for k in 0..found.order.len() {
-        if let Some((row, outcome)) = row_at(found, found.order[k]) {
+        if let Some((row, outcome)) = row_at(found, mixes, found.order[k]) {
             let space = space_after(units, row, next_row(found, k));
             places.push(place(row, outcome, space))?;
         }
     }
     'rows: for k in 0..found.rows.len() {
-        if let Some((row, outcome)) = row_at(found, k) {
+        if let Some((row, outcome)) = row_at(found, mixes, k) {
             match outcome {
                 Outcome::Gone => places.push(place(row, outcome, b""))?,
                 Outcome::Ours | Outcome::Theirs | Outcome::Mixed(_) | Outcome::Both => {}
@@ -195,6 +206,23 @@ fn places_of<'a>(
         }
     }
     Ok(places)
+}
+
+/// The places of a merge of three files, as far as one is found, and in this list the entries that are merged field by field.
+fn found_places<'a>(
+    alloc: Global,
+    mixes: &'a mut Vec<MixFound>,
+    base: &Side<'a, Flat>,
+    ours: &Side<'a, Flat>,
+    theirs: &Side<'a, Flat>,
+) -> Result<Vec<Place<'a>>, AllocError> {
+    let found = find(alloc, mixes, base, ours, theirs)?;
+    let units = Units {
+        base: base.units,
+        ours: ours.units,
+        theirs: theirs.units,
+    };
+    places_of(alloc, units, &found, mixes.as_slice())
 }
 
 /// The body of the item that a unit is, if it is one.
@@ -390,13 +418,8 @@ fn merge_sides<'a>(
         db: t,
         units: their_units,
     };
-    let found = find(alloc, &base, &ours, &theirs)?;
-    let units = Units {
-        base: base.units,
-        ours: ours.units,
-        theirs: theirs.units,
-    };
-    let list = places_of(alloc, units, &found)?;
+    let mut mixes = Vec::new(alloc);
+    let list = found_places(alloc, &mut mixes, &base, &ours, &theirs)?;
     let places = list.as_slice();
     if !is_merge(alloc, &base, &ours, &theirs, places)? {
         return Err(MergeFault::WouldMerge);

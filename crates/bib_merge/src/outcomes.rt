@@ -7,12 +7,12 @@ use bib_store::{Database, ItemList};
 use bib_units::{Label, UnitView};
 use std::alloc::{AllocError, Global};
 
-/// What becomes of a unit: it stays as in ours or as in theirs, is merged field by field, goes, or both versions stay.
-#[derive(Drop)]
+/// What becomes of a unit: it stays as in ours or as in theirs, is the merged entry with this number, goes, or both versions stay.
+#[derive(Clone, Copy)]
 pub(crate) enum Becomes {
     Ours,
     Theirs,
-    Mixed(Found),
+    Mixed(usize),
     Gone,
     Both,
 }
@@ -45,6 +45,7 @@ fn has_new_key(b: UnitView<'_>, o: UnitView<'_>, t: UnitView<'_>) -> bool {
 /// What becomes of a unit that both sides have, and the common file too.
 fn of_three<L: ItemList>(
     alloc: Global,
+    mixes: &mut Vec<Found>,
     base: &Side<'_, L>,
     b: UnitView<'_>,
     ours: &Side<'_, L>,
@@ -67,7 +68,10 @@ fn of_three<L: ItemList>(
         }
     }
     match mix(alloc, base, b, ours, o, theirs, t)? {
-        Some(found) => Ok(Becomes::Mixed(found)),
+        Some(found) => {
+            mixes.push(found)?;
+            Ok(Becomes::Mixed(mixes.len().saturating_sub(1)))
+        }
         None => Ok(Becomes::Both),
     }
 }
@@ -86,9 +90,10 @@ fn of_two<L: ItemList>(
     Ok(Becomes::Both)
 }
 
-/// What becomes of a unit.
+/// What becomes of a unit. If it is merged field by field, the merged entry is added to these.
 pub(crate) fn outcome_of<L: ItemList>(
     alloc: Global,
+    mixes: &mut Vec<Found>,
     base: &Side<'_, L>,
     b: Option<UnitView<'_>>,
     ours: &Side<'_, L>,
@@ -97,7 +102,7 @@ pub(crate) fn outcome_of<L: ItemList>(
     t: Option<UnitView<'_>>,
 ) -> Result<Becomes, AllocError> {
     match (b, o, t) {
-        (Some(b), Some(o), Some(t)) => of_three(alloc, base, b, ours, o, theirs, t),
+        (Some(b), Some(o), Some(t)) => of_three(alloc, mixes, base, b, ours, o, theirs, t),
         (Some(b), Some(o), None) => of_two(alloc, base, b, ours, o),
         (Some(b), None, Some(t)) => of_two(alloc, base, b, theirs, t),
         (None, Some(o), Some(t)) => {

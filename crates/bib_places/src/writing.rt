@@ -114,6 +114,27 @@ fn add_outcome<L: ItemList>(
     Ok(())
 }
 
+/// How many bytes our unit of a place has, or theirs if we have none, with the white space after it.
+fn len_at(ours: &[UnitView<'_>], theirs: &[UnitView<'_>], place: &Place<'_>) -> usize {
+    let unit = match unit_at(ours, place.ours) {
+        Some(unit) => Some(unit),
+        None => unit_at(theirs, place.theirs),
+    };
+    match unit {
+        Some(unit) => unit.bytes.len().saturating_add(place.space.len()),
+        None => 0,
+    }
+}
+
+/// About how many bytes the merge of these places has, so that there is room for them at once.
+fn about_len(ours: &[UnitView<'_>], theirs: &[UnitView<'_>], places: &[Place<'_>]) -> usize {
+    let mut len: usize = 0;
+    'places: for k in 0..places.len() {
+        len = len.saturating_add(len_at(ours, theirs, &places[k]));
+    }
+    len
+}
+
 /// The bytes of the merge of these places, which begins with this white space. It takes time and memory in their number, and in
 /// the lengths of the entries that are merged field by field.
 pub fn merged_text<L: ItemList>(
@@ -127,6 +148,7 @@ pub fn merged_text<L: ItemList>(
         → text ≡ merged_bytes (units_of ro) (units_of rt) space.now (map (place_seen (units_of ro) (units_of rt)) places.now)) }
 {
     let mut out = Vec::from_slice(alloc, space)?;
+    out.reserve(about_len(ours.units, theirs.units, places))?;
     'places: for k in 0..places.len() {
         let place = &places[k];
         let o = unit_at(ours.units, place.ours);
