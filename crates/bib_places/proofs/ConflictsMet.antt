@@ -1,5 +1,5 @@
 -- The conflict over the units that meet at a place.
-use Rattle.std.proofs.Common.{◌≡◌, List, [], ◌∷◌, Option, None, Some, refl, ap, ap₂}
+use Rattle.std.proofs.Common.{◌≡◌, List, [], ◌∷◌, Option, None, Some, ap, ap₂}
 use Rattle.bib_spec.specs.Reading.{Reading}
 use Rattle.merge_spec.specs.Units.{Unit, Label}
 use Rattle.merge_spec.specs.ThreeWay.{entry_of}

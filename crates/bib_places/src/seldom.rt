@@ -51,7 +51,8 @@ fn are_single(alloc: Global, merged: &[Text]) -> Result<bool, AllocError>
 {
     let all = Tally::of(alloc, merged)?;
     'codes: for k in 0..merged.len() {
-        if all.count(merged[k].as_slice()) > 1 {
+        let is_once = all.count(merged[k].as_slice()) <= 1;
+        if !is_once {
             return Ok(false);
         }
     }
@@ -70,7 +71,8 @@ pub(crate) fn are_seldom(
         → are_seldom (map (λ s. s.unit) uo) (map (λ s. s.unit) ut) (map (place_seen (map (λ s. s.unit) uo) (map (λ s. s.unit) ut)) places.now) ≡ true) }
 {
     let merged = codes_left(alloc, ours, theirs, places)?;
-    if are_single(alloc, merged.as_slice())? {
+    let single = are_single(alloc, merged.as_slice())?;
+    if single {
         return Ok(true);
     }
     let of_ours = codes_of(alloc, ours)?;

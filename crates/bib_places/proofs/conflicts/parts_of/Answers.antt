@@ -1,4 +1,3 @@
-use Rattle.std.proofs.Common.{◌≡◌, Some, map, sym, ◌∙◌, subst}
 use Rattle.bib_places.proofs.ItemUnits.{numbered, item-entry, parts-units}
 use Rattle.bib_places.proofs.conflicts.parts_of.Goals as goal
 

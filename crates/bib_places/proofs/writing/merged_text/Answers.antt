@@ -1,4 +1,4 @@
-use Rattle.std.proofs.Common.{◌++◌, map, sym, ◌∙◌, ap}
+use Rattle.std.proofs.Common.{◌++◌, sym, ◌∙◌, ap}
 use Rattle.bib_spec.specs.Text.{Text}
 use Rattle.merge_spec.specs.Units.{units_of, spaced_of}
 use Rattle.merge_spec.specs.Merged.{place_bytes}
