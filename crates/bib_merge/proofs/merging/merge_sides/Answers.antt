@@ -27,14 +27,9 @@ returns-clause-lost c ro reads_o rt reads_t rm reads_m =
 pub returns-clause-opens : goal.returns-clause-opens
 returns-clause-opens c = subst IsOpenable c.as_slice.ensures c.in_ok-db.ensures.opens
 
-pub returns-in_err-found-clause-fault : goal.returns-in_err-found-clause-fault
-returns-in_err-found-clause-fault c =
-    let p = err_from_is_err_and c.from_residual.result c.from_residual.ensures.1 in
-    rw (p.1, p.2) IsMergedFault.no_memory
-
 pub returns-in_err-list-clause-fault : goal.returns-in_err-list-clause-fault
 returns-in_err-list-clause-fault c =
-    let p = err_from_is_err_and c.from_residual-in_err-list.result c.from_residual-in_err-list.ensures.1 in
+    let p = err_from_is_err_and c.from_residual.result c.from_residual.ensures.1 in
     rw (p.1, p.2) IsMergedFault.no_memory
 
 pub returns-in_err-is_merge-clause-fault : goal.returns-in_err-is_merge-clause-fault
