@@ -1,5 +1,5 @@
 -- The lines that tell conflicts. (dialect)
-use Rattle.std.specs.Prelude.{List, [], ◌++◌, codes}
+use Rattle.std.specs.Prelude.{List, ◌++◌, codes}
 use Rattle.std.specs.List.{flat_map}
 use Rattle.bib_spec.specs.Text.{Text, folded}
 use Rattle.merge_spec.specs.Units.{Label, EntryLabel, MacroLabel, BytesLabel}
