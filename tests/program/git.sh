@@ -61,7 +61,7 @@ ends_with 0; refs_are '@misc{b, t = 1}\n@misc{a, t = 2}\n'
 # Both set one field: git reports the conflict, shows its line, and the file opens.
 scene "$two" '@misc{a, t = 2}\n@misc{b, t = 1}\n' '@misc{a, t = 3}\n@misc{b, t = 1}\n' merge -m merged theirs
 ends_with 1; refs_are '<<<<<<< ours\n@misc{a, t = 2}\n=======\n@misc{a, t = 3}\n>>>>>>> theirs\n@misc{b, t = 1}\n'
-expect 'git does not show the conflict' grep -qF 'conflict entry a' seen/git_out seen/git_errors
+expect 'git does not show the conflict' grep -qF 'conflict field a t' seen/git_out seen/git_errors
 expect 'git does not report the conflict' grep -qF 'CONFLICT' seen/git_out
 when check repository/refs.bib; ends_with 0; mentions 'entries 3'
 

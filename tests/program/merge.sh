@@ -57,12 +57,21 @@ merges "$one@misc{z, t = 1}\\n" "$(a '{x}' 2)@misc{z, t = 1}\\n" "$one@misc{z, t
 merges "$one@misc{z}\\n" "@misc{z}\\n$one" "$(a 1 '{y}')@misc{z}\\n" "@misc{z}\\n$(a 1 '{y}')"
 merges "$one@misc{z}\\n" "$(a 1 '{y}')@misc{z}\\n" "@misc{z}\\n$one" "@misc{z}\\n$(a 1 '{y}')"
 
+# A field set here; another set, added or dropped there. What one side dropped does not come back.
+merges "$one" "$(a '{x}' 2)" "$(a 1 '{y}')" "$(a '{x}' '{y}')"
+merges "$one" "$(a '{x}' 2)" '@misc{a,\n  t = 1,\n  u = 2,\n  v = 3\n}\n' '@misc{a,\n  t = {x},\n  u = 2,\n  v = 3\n}\n'
+merges "$one" "$(a '{x}' 2)" '@misc{a,\n  t = 1\n}\n' '@misc{a,\n  t = {x}\n}\n'
+merges "$one" '@misc{a,\n  t = 1\n}\n' "$(a '{x}' 2)" '@misc{a,\n  t = {x}\n}\n'
+# Type and key of an entry are merged too.
+merges '@misc{a, t = 1}\n' '@misc{a, t = 2}\n' '@Book{A, t = 1}\n' '@Book{A, t = 2}\n'
+
 # Units that all have one name meet in their order, however many there are.
 many=$(awk 'BEGIN { while (n++ < 2000) printf "@misc{a}\\n" }')
 merges "$many" "$many@misc{o}\\n" "@misc{p}\\n$many" "@misc{p}\\n$many@misc{o}\\n"
 
 # What says the same in other bytes is no change; nor is an entry that both add, each in its own layout.
 merges "$one" "$(a '{x}' 2)" "$(a '{1}' 2)" "$(a '{x}' 2)"
+merges "$one" '@misc{a,\n    t = {1},\n  u = 2\n}\n' "$(a '{x}' 2)" '@misc{a,\n    t = {x},\n  u = 2\n}\n'
 merges "$one" '' '@misc{a,\n  T={1},\n  u = 2\n}\n' ''
 merges "$one" "$one@misc{n, t = 1}\\n" "@misc{N, t = 1}\\n$one" "$one@misc{n, t = 1}\\n"
 merges "$one" "$one@misc{n, t = {x  y}}\\n" "@Misc{N,\\n  T = \"x y\"\\n}\\n$one" "$one@misc{n, t = {x  y}}\\n"
@@ -75,8 +84,12 @@ merges '' '' '' ''
 
 # ---- conflicts
 
-# Both changed an entry or a macro; both added one; one took an entry away, and the other changed it.
-conflicts 'entry a' "$one" "$(a '{x}' 2)" "$(a '{y}' 2)" "<<<<<<< ours\\n$(a '{x}' 2)=======\\n$(a '{y}' 2)>>>>>>> theirs\\n"
+# Both changed a field, a type or a macro; both added one; one took an entry away, and the other changed it.
+conflicts 'field a t' "$one" "$(a '{x}' 2)" "$(a '{y}' 2)" "<<<<<<< ours\\n$(a '{x}' 2)=======\\n$(a '{y}' 2)>>>>>>> theirs\\n"
+conflicts 'field a u' "$one" '@misc{A,\n  t = 1\n}\n' "$(a 1 '{y}')" "<<<<<<< ours\\n@misc{A,\\n  t = 1\\n}\\n=======\\n$(a 1 '{y}')>>>>>>> theirs\\n"
+conflicts 'type a' '@misc{A}\n' '@book{A}\n' '@online{A}\n' '<<<<<<< ours\n@book{A}\n=======\n@online{A}\n>>>>>>> theirs\n'
+conflicts 'entry a' '@misc{a, t = 1}\n' '@misc{a, t = 1, T = 1}\n' '@misc{a, t = 2}\n' \
+    '<<<<<<< ours\n@misc{a, t = 1, T = 1}\n=======\n@misc{a, t = 2}\n>>>>>>> theirs\n'
 conflicts 'macro m' '@string{M = 1}\n' '@string{M = 2}\n' '@string{m = 3}\n' '<<<<<<< ours\n@string{M = 2}\n=======\n@string{m = 3}\n>>>>>>> theirs\n'
 conflicts 'both added entry n' "$one" "$one@misc{n, t = 1}\\n" "@misc{N, t = 2}\\n$one" \
     "$one<<<<<<< ours\\n@misc{n, t = 1}\\n=======\\n@misc{N, t = 2}\\n>>>>>>> theirs\\n"
@@ -98,7 +111,11 @@ merges '' '@misc{c, crossref = {a}}\n' '@misc{a}\n' '@misc{c, crossref = {a}}\n@
 
 # Each conflict has a line, in the order of the file.
 three "$one@misc{b, t = 1}\\n" "$(a '{x}' 2)" "$(a '{y}' 2)@misc{B, t = 2}\\n"
-when merge base.bib ours.bib theirs.bib; ends_with 1; prints 'conflict entry a\nconflict removed by ours entry b\n'; says_nothing
+when merge base.bib ours.bib theirs.bib; ends_with 1; prints 'conflict field a t\nconflict removed by ours entry b\n'; says_nothing
+
+# So has each part of one entry: the type, our fields in our order, and then those that only they have in theirs.
+three '@misc{a, t = 1, u = 1, v = 1}\n' '@book{a, V = 2, t = 2}\n' '@online{a, t = 3, u = 3, v = 3}\n'
+when merge base.bib ours.bib theirs.bib; ends_with 1; prints 'conflict type a\nconflict field a v\nconflict field a t\nconflict field a u\n'; says_nothing
 
 # ---- no merge
 

@@ -5,12 +5,13 @@
 
 mod fault;
 mod merging;
+mod mixing;
 mod ordering;
 mod outcomes;
 mod pairing;
 mod spacing;
 
-pub use bib_places::{Change, Conflict};
+pub use bib_places::{Change, ChangedPart, Conflict};
 pub use bib_units::Label;
 pub use fault::MergeFault;
 pub use merging::{Merged, merge};

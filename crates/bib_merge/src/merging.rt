@@ -11,12 +11,14 @@ ghost use Rattle.bib_places.specs.ConflictsSeen.{conflict_seen};
 ghost use Rattle.bib_merge.specs.Merges.{IsMergeOf, fault_in, IsOpeningFault, IsMergedFault, IsMergeFault};
 
 use crate::fault::MergeFault;
+use crate::mixing::Found as MixFound;
 use crate::ordering::order;
-use crate::outcomes::outcome_of;
+use crate::outcomes::{Becomes, outcome_of};
 use crate::pairing::{In, Row, Rows};
 use crate::spacing::{Units, chosen, space_after, unit};
+use bib_fields::add_mixed;
 use bib_parents::lost_keys;
-use bib_places::{Conflict, File, Outcome, Place, Side, conflicts_of, is_merge, merged_text};
+use bib_places::{Conflict, File, Mix, Outcome, Place, Side, conflicts_of, is_merge, merged_text};
 use bib_scan::{ReadFault, Text};
 use bib_store::{Database, Flat};
 use bib_units::{FileUnits, UnitView, units_of};
@@ -59,49 +61,55 @@ fn fault_in(file: File, fault: ReadFault) -> MergeFault
     }
 }
 
-/// The rows of three files, what becomes of each, and their order.
+/// The rows of three files, what becomes of each, and the order of those that stay.
 #[derive(Drop)]
 struct Found {
     rows: Vec<Row>,
-    outcomes: Vec<Outcome>,
+    outcomes: Vec<Becomes>,
     order: Vec<usize>,
 }
 
-/// What becomes of each row.
+/// What becomes of each row. The entries that are merged field by field are added to these.
 fn outcomes_of(
     alloc: Global,
+    mixes: &mut Vec<MixFound>,
     base: &Side<'_, Flat>,
     ours: &Side<'_, Flat>,
     theirs: &Side<'_, Flat>,
     rows: &[Row],
-) -> Result<Vec<Outcome>, AllocError> {
-    let mut outcomes = Vec::new(alloc);
+) -> Result<Vec<Becomes>, AllocError> {
+    let mut outcomes = Vec::with_capacity(alloc, rows.len())?;
     'rows: for k in 0..rows.len() {
         let row = rows[k];
         let b = unit(base.units, row.base);
         let o = unit(ours.units, row.ours);
         let t = unit(theirs.units, row.theirs);
-        outcomes.push(outcome_of(alloc, base, b, ours, o, theirs, t)?)?;
+        outcomes.push(outcome_of(alloc, mixes, base, b, ours, o, theirs, t)?)?;
     }
     Ok(outcomes)
 }
 
+/// Whether a unit goes.
+fn is_gone(becomes: Becomes) -> bool {
+    match becomes {
+        Becomes::Gone => true,
+        Becomes::Ours | Becomes::Theirs | Becomes::Mixed(_) | Becomes::Both => false,
+    }
+}
+
 /// Which rows are kept.
-fn kept_rows(alloc: Global, outcomes: &[Outcome]) -> Result<Vec<bool>, AllocError> {
+fn kept_rows(alloc: Global, outcomes: &[Becomes]) -> Result<Vec<bool>, AllocError> {
     let mut kept = Vec::new(alloc);
     'outcomes: for k in 0..outcomes.len() {
-        let is_kept = match outcomes[k] {
-            Outcome::Gone => false,
-            Outcome::Ours | Outcome::Theirs | Outcome::Both => true,
-        };
-        kept.push(is_kept)?;
+        kept.push(!is_gone(outcomes[k]))?;
     }
     Ok(kept)
 }
 
-/// Looks for a merge.
+/// Looks for a merge. The entries that are merged field by field are added to these.
 fn find(
     alloc: Global,
+    mixes: &mut Vec<MixFound>,
     base: &Side<'_, Flat>,
     ours: &Side<'_, Flat>,
     theirs: &Side<'_, Flat>,
@@ -110,7 +118,7 @@ fn find(
     let _of_base = rows.add(base.units, In::Base)?;
     let of_ours = rows.add(ours.units, In::Ours)?;
     let of_theirs = rows.add(theirs.units, In::Theirs)?;
-    let outcomes = outcomes_of(alloc, base, ours, theirs, rows.rows.as_slice())?;
+    let outcomes = outcomes_of(alloc, mixes, base, ours, theirs, rows.rows.as_slice())?;
     let kept = kept_rows(alloc, outcomes.as_slice())?;
     let order = order(
         alloc,
@@ -127,7 +135,7 @@ fn find(
 }
 
 /// The place of a row.
-fn place<'a>(row: Row, outcome: Outcome, space: &'a [u8]) -> Place<'a> {
+fn place<'a>(row: Row, outcome: Outcome<'a>, space: &'a [u8]) -> Place<'a> {
     Place {
         base: row.base,
         ours: row.ours,
@@ -137,10 +145,34 @@ fn place<'a>(row: Row, outcome: Outcome, space: &'a [u8]) -> Place<'a> {
     }
 }
 
+/// A merged entry, as a place has it.
+fn mixed(found: &MixFound) -> Outcome<'_> {
+    Outcome::Mixed(Mix {
+        kind: found.kind,
+        key: found.key,
+        space: found.space.as_slice(),
+        rows: found.rows.as_slice(),
+    })
+}
+
+/// What becomes of a unit, as a place has it; of these entries some are merged.
+fn outcome(mixes: &[MixFound], becomes: Becomes) -> Outcome<'_> {
+    match becomes {
+        Becomes::Ours => Outcome::Ours,
+        Becomes::Theirs => Outcome::Theirs,
+        Becomes::Mixed(n) => match mixes.get(n) {
+            Some(found) => mixed(found),
+            None => Outcome::Both,
+        },
+        Becomes::Gone => Outcome::Gone,
+        Becomes::Both => Outcome::Both,
+    }
+}
+
 /// The row with this number, and what becomes of it.
-fn row_at(found: &Found, n: usize) -> Option<(Row, Outcome)> {
+fn row_at<'a>(found: &Found, mixes: &'a [MixFound], n: usize) -> Option<(Row, Outcome<'a>)> {
     match (found.rows.get(n), found.outcomes.get(n)) {
-        (Some(row), Some(outcome)) => Some((*row, *outcome)),
+        (Some(row), Some(becomes)) => Some((*row, outcome(mixes, *becomes))),
         _ => None,
     }
 }
@@ -148,8 +180,7 @@ fn row_at(found: &Found, n: usize) -> Option<(Row, Outcome)> {
 /// The row that comes next in the order.
 fn next_row(found: &Found, k: usize) -> Option<Row> {
     let next = found.order.get(k.saturating_add(1))?;
-    let (row, _) = row_at(found, *next)?;
-    Some(row)
+    found.rows.get(*next).copied()
 }
 
 /// The places of what was found: those that are kept, in their order, and then those that go.
@@ -157,76 +188,140 @@ fn places_of<'a>(
     alloc: Global,
     units: Units<'a>,
     found: &Found,
+    mixes: &'a [MixFound],
 ) -> Result<Vec<Place<'a>>, AllocError> {
-    let mut places = Vec::new(alloc);
+    let mut places = Vec::with_capacity(alloc, found.rows.len())?;
     'order: for k in 0..found.order.len() {
-        if let Some((row, outcome)) = row_at(found, found.order[k]) {
+        if let Some((row, outcome)) = row_at(found, mixes, found.order[k]) {
             let space = space_after(units, row, next_row(found, k));
             places.push(place(row, outcome, space))?;
         }
     }
     'rows: for k in 0..found.rows.len() {
-        if let Some((row, outcome)) = row_at(found, k) {
-            if outcome == Outcome::Gone {
-                places.push(place(row, outcome, b""))?;
+        if let Some((row, outcome)) = row_at(found, mixes, k) {
+            match outcome {
+                Outcome::Gone => places.push(place(row, outcome, b""))?,
+                Outcome::Ours | Outcome::Theirs | Outcome::Mixed(_) | Outcome::Both => {}
             }
         }
     }
     Ok(places)
 }
 
-/// Adds the body of the item that a unit is, if it is one.
-fn add_body<'a>(
-    bodies: &mut Vec<&'a [u8]>,
-    db: &'a Database<Flat>,
-    unit: Option<UnitView<'a>>,
-) -> Result<(), AllocError> {
-    let Some(unit) = unit else {
-        return Ok(());
+/// The places of a merge of three files, as far as one is found, and in this list the entries that are merged field by field.
+fn found_places<'a>(
+    alloc: Global,
+    mixes: &'a mut Vec<MixFound>,
+    base: &Side<'a, Flat>,
+    ours: &Side<'a, Flat>,
+    theirs: &Side<'a, Flat>,
+) -> Result<Vec<Place<'a>>, AllocError> {
+    let found = find(alloc, mixes, base, ours, theirs)?;
+    let units = Units {
+        base: base.units,
+        ours: ours.units,
+        theirs: theirs.units,
     };
-    if let Some(n) = unit.item {
-        if n < db.item_count() {
-            bodies.push(db.item(n).body())?;
+    places_of(alloc, units, &found, mixes.as_slice())
+}
+
+/// The body of the item that a unit is, if it is one.
+fn body_of<'a>(db: &'a Database<Flat>, unit: Option<UnitView<'_>>) -> Option<&'a [u8]> {
+    let n = unit?.item?;
+    if n < db.item_count() {
+        return Some(db.item(n).body());
+    }
+    None
+}
+
+/// The bytes of a merged entry.
+fn mixed_body(
+    alloc: Global,
+    ours: &Side<'_, Flat>,
+    o: Option<UnitView<'_>>,
+    theirs: &Side<'_, Flat>,
+    t: Option<UnitView<'_>>,
+    mix: Mix<'_>,
+) -> Result<Vec<u8>, AllocError> {
+    let mut body = Vec::new(alloc);
+    if let (Some(o), Some(t)) = (o, t) {
+        if let (Some(n), Some(m)) = (o.item, t.item) {
+            add_mixed(alloc, &mut body, ours.db, n, theirs.db, m, mix)?;
+        }
+    }
+    Ok(body)
+}
+
+/// Items of a file, of which the first were met.
+#[derive(Drop)]
+struct Met<'a> {
+    db: &'a Database<Flat>,
+    count: usize,
+    // whether each had the body that it was to have
+    as_wanted: bool,
+}
+
+impl<'a> Met<'a> {
+    /// Meets the next item, which is to have this body; nothing if there is no body.
+    fn meet(&mut self, body: Option<&[u8]>) {
+        if let Some(body) = body {
+            let n = self.count;
+            self.as_wanted = self.as_wanted
+                && n < self.db.item_count()
+                && self.db.item(n).body() == body;
+            self.count = n.saturating_add(1);
+        }
+    }
+
+    /// Whether all items were met, and each had the body that it was to have.
+    fn is_all(&self) -> bool {
+        self.as_wanted && self.count == self.db.item_count()
+    }
+}
+
+/// Meets the items of a place, in their order.
+fn meet_place(
+    alloc: Global,
+    met: &mut Met<'_>,
+    ours: &Side<'_, Flat>,
+    theirs: &Side<'_, Flat>,
+    place: &Place<'_>,
+) -> Result<(), AllocError> {
+    let o = unit(ours.units, place.ours);
+    let t = unit(theirs.units, place.theirs);
+    match place.outcome {
+        Outcome::Ours => met.meet(body_of(ours.db, o)),
+        Outcome::Theirs => met.meet(body_of(theirs.db, t)),
+        Outcome::Mixed(mix) => {
+            let body = mixed_body(alloc, ours, o, theirs, t, mix)?;
+            met.meet(Some(body.as_slice()));
+        }
+        Outcome::Gone => {}
+        Outcome::Both => {
+            met.meet(body_of(ours.db, o));
+            met.meet(body_of(theirs.db, t));
         }
     }
     Ok(())
 }
 
-/// The bodies of the items that are left in a merge.
-fn bodies_left<'a>(
+/// Whether the items of a file are those that are left in a merge, with the same bodies.
+fn has_items(
     alloc: Global,
-    ours: &Side<'a, Flat>,
-    theirs: &Side<'a, Flat>,
+    db: &Database<Flat>,
+    ours: &Side<'_, Flat>,
+    theirs: &Side<'_, Flat>,
     places: &[Place<'_>],
-) -> Result<Vec<&'a [u8]>, AllocError> {
-    let mut bodies = Vec::new(alloc);
+) -> Result<bool, AllocError> {
+    let mut met = Met {
+        db,
+        count: 0,
+        as_wanted: true,
+    };
     'places: for k in 0..places.len() {
-        let o = unit(ours.units, places[k].ours);
-        let t = unit(theirs.units, places[k].theirs);
-        match places[k].outcome {
-            Outcome::Ours => add_body(&mut bodies, ours.db, o)?,
-            Outcome::Theirs => add_body(&mut bodies, theirs.db, t)?,
-            Outcome::Gone => {}
-            Outcome::Both => {
-                add_body(&mut bodies, ours.db, o)?;
-                add_body(&mut bodies, theirs.db, t)?;
-            }
-        }
+        meet_place(alloc, &mut met, ours, theirs, &places[k])?;
     }
-    Ok(bodies)
-}
-
-/// Whether the items of a file have these bodies.
-fn has_bodies(db: &Database<Flat>, bodies: &[&[u8]]) -> bool {
-    if db.item_count() != bodies.len() {
-        return false;
-    }
-    'bodies: for k in 0..bodies.len() {
-        if k >= db.item_count() || db.item(k).body() != bodies[k] {
-            return false;
-        }
-    }
-    true
+    Ok(met.is_all())
 }
 
 /// Why the merged text is not opened.
@@ -241,15 +336,21 @@ fn merged_fault(fault: ReadFault) -> MergeFault
     }
 }
 
-/// Opens the merged text, if its items have these bodies.
-fn opening(alloc: Global, text: &[u8], bodies: &[&[u8]]) -> Result<Database<Flat>, MergeFault>
+/// Opens the merged text, if its items are those that are left in a merge of these places.
+fn opening(
+    alloc: Global,
+    text: &[u8],
+    ours: &Side<'_, Flat>,
+    theirs: &Side<'_, Flat>,
+    places: &[Place<'_>],
+) -> Result<Database<Flat>, MergeFault>
     ensures opened { IfOk result (λ db. db ≡ text.now) }
     ensures opens { OnOk result (IsOpenable text.now) }
     ensures fault { IfErr result IsMergedFault }
 {
     match Database::open_bytes(alloc, text, Flat::new(alloc)) {
         Ok(db) => {
-            if !has_bodies(&db, bodies) {
+            if !has_items(alloc, &db, ours, theirs, places)? {
                 return Err(MergeFault::WouldMerge);
             }
             Ok(db)
@@ -317,22 +418,16 @@ fn merge_sides<'a>(
         db: t,
         units: their_units,
     };
-    let found = find(alloc, &base, &ours, &theirs)?;
-    let units = Units {
-        base: base.units,
-        ours: ours.units,
-        theirs: theirs.units,
-    };
-    let list = places_of(alloc, units, &found)?;
+    let mut mixes = Vec::new(alloc);
+    let list = found_places(alloc, &mut mixes, &base, &ours, &theirs)?;
     let places = list.as_slice();
     if !is_merge(alloc, &base, &ours, &theirs, places)? {
         return Err(MergeFault::WouldMerge);
     }
     let space = chosen(of_base.space, of_ours.space, of_theirs.space);
-    let text = merged_text(alloc, ours.units, theirs.units, space, places)?;
-    let bodies = bodies_left(alloc, &ours, &theirs, places)?;
-    let db = opening(alloc, text.as_slice(), bodies.as_slice())?;
-    let conflicts = conflicts_of(alloc, base_units, our_units, their_units, places)?;
+    let text = merged_text(alloc, &ours, &theirs, space, places)?;
+    let db = opening(alloc, text.as_slice(), &ours, &theirs, places)?;
+    let conflicts = conflicts_of(alloc, b, base_units, o, our_units, t, their_units, places)?;
     let lost = lost_keys(alloc, o, t, &db)?;
     Ok(Merged {
         text,

@@ -1,10 +1,21 @@
 //! What becomes of a unit that three files have in up to three forms.
 
-use bib_places::{Outcome, Side};
+use crate::mixing::{Found, mix};
+use bib_places::Side;
 use bib_sayings::items_agree;
 use bib_store::{Database, ItemList};
-use bib_units::UnitView;
+use bib_units::{Label, UnitView};
 use std::alloc::{AllocError, Global};
+
+/// What becomes of a unit: it stays as in ours or as in theirs, is the merged entry with this number, goes, or both versions stay.
+#[derive(Clone, Copy)]
+pub(crate) enum Becomes {
+    Ours,
+    Theirs,
+    Mixed(usize),
+    Gone,
+    Both,
+}
 
 /// Whether the two units have the same bytes, or say the same.
 fn agree<L: ItemList>(
@@ -23,29 +34,46 @@ fn agree<L: ItemList>(
     }
 }
 
+/// Whether they spell the key of an entry in a new way, and we do not.
+fn has_new_key(b: UnitView<'_>, o: UnitView<'_>, t: UnitView<'_>) -> bool {
+    match (b.label, o.label, t.label) {
+        (Label::Entry(b), Label::Entry(o), Label::Entry(t)) => o == b && t != b,
+        _ => false,
+    }
+}
+
 /// What becomes of a unit that both sides have, and the common file too.
 fn of_three<L: ItemList>(
     alloc: Global,
+    mixes: &mut Vec<Found>,
     base: &Side<'_, L>,
     b: UnitView<'_>,
     ours: &Side<'_, L>,
     o: UnitView<'_>,
     theirs: &Side<'_, L>,
     t: UnitView<'_>,
-) -> Result<Outcome, AllocError> {
+) -> Result<Becomes, AllocError> {
     if o.bytes == t.bytes {
-        return Ok(Outcome::Ours);
+        return Ok(Becomes::Ours);
     }
     if o.bytes == b.bytes {
-        return Ok(Outcome::Theirs);
+        return Ok(Becomes::Theirs);
     }
-    if agree(alloc, base.db, b, theirs.db, t)? {
-        return Ok(Outcome::Ours);
+    if !has_new_key(b, o, t) {
+        if agree(alloc, base.db, b, theirs.db, t)? {
+            return Ok(Becomes::Ours);
+        }
+        if agree(alloc, ours.db, o, theirs.db, t)? {
+            return Ok(Becomes::Ours);
+        }
     }
-    if agree(alloc, ours.db, o, theirs.db, t)? {
-        return Ok(Outcome::Ours);
+    match mix(alloc, base, b, ours, o, theirs, t)? {
+        Some(found) => {
+            mixes.push(found)?;
+            Ok(Becomes::Mixed(mixes.len().saturating_sub(1)))
+        }
+        None => Ok(Becomes::Both),
     }
-    Ok(Outcome::Both)
 }
 
 /// What becomes of a unit that one side has, and the common file too.
@@ -55,36 +83,37 @@ fn of_two<L: ItemList>(
     b: UnitView<'_>,
     side: &Side<'_, L>,
     one: UnitView<'_>,
-) -> Result<Outcome, AllocError> {
+) -> Result<Becomes, AllocError> {
     if agree(alloc, base.db, b, side.db, one)? {
-        return Ok(Outcome::Gone);
+        return Ok(Becomes::Gone);
     }
-    Ok(Outcome::Both)
+    Ok(Becomes::Both)
 }
 
-/// What becomes of a unit.
+/// What becomes of a unit. If it is merged field by field, the merged entry is added to these.
 pub(crate) fn outcome_of<L: ItemList>(
     alloc: Global,
+    mixes: &mut Vec<Found>,
     base: &Side<'_, L>,
     b: Option<UnitView<'_>>,
     ours: &Side<'_, L>,
     o: Option<UnitView<'_>>,
     theirs: &Side<'_, L>,
     t: Option<UnitView<'_>>,
-) -> Result<Outcome, AllocError> {
+) -> Result<Becomes, AllocError> {
     match (b, o, t) {
-        (Some(b), Some(o), Some(t)) => of_three(alloc, base, b, ours, o, theirs, t),
+        (Some(b), Some(o), Some(t)) => of_three(alloc, mixes, base, b, ours, o, theirs, t),
         (Some(b), Some(o), None) => of_two(alloc, base, b, ours, o),
         (Some(b), None, Some(t)) => of_two(alloc, base, b, theirs, t),
         (None, Some(o), Some(t)) => {
             if agree(alloc, ours.db, o, theirs.db, t)? {
-                return Ok(Outcome::Ours);
+                return Ok(Becomes::Ours);
             }
-            Ok(Outcome::Both)
+            Ok(Becomes::Both)
         }
-        (None, Some(_), None) => Ok(Outcome::Ours),
-        (None, None, Some(_)) => Ok(Outcome::Theirs),
-        (Some(_), None, None) => Ok(Outcome::Gone),
-        (None, None, None) => Ok(Outcome::Gone),
+        (None, Some(_), None) => Ok(Becomes::Ours),
+        (None, None, Some(_)) => Ok(Becomes::Theirs),
+        (Some(_), None, None) => Ok(Becomes::Gone),
+        (None, None, None) => Ok(Becomes::Gone),
     }
 }

@@ -45,9 +45,9 @@ fn with(row: Row, file: In, n: usize) -> Row {
     }
 }
 
-/// The label as bytes: its kind, and its name in lower case or its bytes.
-fn code(alloc: Global, label: Label<'_>) -> Result<Vec<u8>, AllocError> {
-    let mut code = Vec::new(alloc);
+/// Makes the text the label as bytes: its name in lower case or its bytes, and its kind.
+fn write_code(code: &mut Vec<u8>, label: Label<'_>) -> Result<(), AllocError> {
+    code.clear();
     match label {
         Label::Entry(key) => {
             code.extend_from_slice(key)?;
@@ -64,35 +64,28 @@ fn code(alloc: Global, label: Label<'_>) -> Result<Vec<u8>, AllocError> {
             code.push(2)?;
         }
     }
-    Ok(code)
+    Ok(())
 }
 
-/// The number that this text was given, or the next one.
-fn number_of(
-    numbers: &mut HashMap<Vec<u8>, usize>,
-    text: Vec<u8>,
-    next: usize,
-) -> Result<usize, AllocError> {
-    if let Some(n) = numbers.get(&text) {
-        return Ok(*n);
+/// The number at this place of a list that may be too short for it.
+fn number_at(numbers: &[Option<usize>], n: usize) -> Option<usize> {
+    match numbers.get(n) {
+        Some(number) => *number,
+        None => None,
     }
-    numbers.insert(text, next)?;
-    Ok(next)
 }
 
-/// The text with a number after it.
-fn numbered(text: Vec<u8>, n: usize) -> Result<Vec<u8>, AllocError> {
-    let mut text = text;
-    text.extend_from_slice(&(n as u64).to_le_bytes())?;
-    Ok(text)
-}
-
-/// The rows of all units, and of each file the row of each of its units.
+/// The rows of all units.
 #[derive(Drop)]
 pub(crate) struct Rows {
     alloc: Global,
     pub rows: Vec<Row>,
-    numbers: HashMap<Vec<u8>, usize>,
+    // the first row of each label
+    firsts: HashMap<Vec<u8>, usize>,
+    // of each row, the next one of the same label
+    nexts: Vec<Option<usize>>,
+    // the label that is looked for
+    code: Vec<u8>,
 }
 
 impl Rows {
@@ -101,27 +94,60 @@ impl Rows {
         Rows {
             alloc,
             rows: Vec::new(alloc),
-            numbers: HashMap::new(alloc),
+            firsts: HashMap::new(alloc),
+            nexts: Vec::new(alloc),
+            code: Vec::new(alloc),
         }
+    }
+
+    /// A new row.
+    fn new_row(&mut self) -> Result<usize, AllocError> {
+        let row = self.rows.len();
+        self.rows.push(NOWHERE)?;
+        self.nexts.push(None)?;
+        Ok(row)
+    }
+
+    /// The first row of a label, which is a new one if there is none yet.
+    fn first(&mut self, label: Label<'_>) -> Result<usize, AllocError> {
+        write_code(&mut self.code, label)?;
+        if let Some(row) = self.firsts.get(&self.code) {
+            return Ok(*row);
+        }
+        let row = self.new_row()?;
+        let code = Vec::from_slice(self.alloc, self.code.as_slice())?;
+        self.firsts.insert(code, row)?;
+        Ok(row)
+    }
+
+    /// The row after this one of the same label, which is a new one if there is none yet.
+    fn next(&mut self, row: usize) -> Result<usize, AllocError> {
+        if let Some(next) = number_at(self.nexts.as_slice(), row) {
+            return Ok(next);
+        }
+        let next = self.new_row()?;
+        if row < self.nexts.len() {
+            self.nexts[row] = Some(next);
+        }
+        Ok(next)
     }
 
     /// Adds the units of a file, and gives the row of each.
     pub fn add(&mut self, units: &[UnitView<'_>], file: In) -> Result<Vec<usize>, AllocError> {
-        let mut counts: HashMap<Vec<u8>, usize> = HashMap::new(self.alloc);
-        let mut places = Vec::new(self.alloc);
+        // of the first row of each label, the last one of that label that a unit of the file has
+        let mut last = vec![in self.alloc; None; self.rows.len()]?;
+        let mut places = Vec::with_capacity(self.alloc, units.len())?;
         'units: for n in 0..units.len() {
-            let label = units[n].label;
-            let seen = match counts.get(&code(self.alloc, label)?) {
-                Some(count) => *count,
-                None => 0,
+            let first = self.first(units[n].label)?;
+            let row = match number_at(last.as_slice(), first) {
+                Some(row) => self.next(row)?,
+                None => first,
             };
-            counts.insert(code(self.alloc, label)?, seen.saturating_add(1))?;
-            let id = numbered(code(self.alloc, label)?, seen)?;
-            let row = number_of(&mut self.numbers, id, self.rows.len())?;
-            if row >= self.rows.len() {
-                self.rows.push(NOWHERE)?;
+            if last.len() < self.rows.len() {
+                last.push(None)?;
             }
-            if row < self.rows.len() {
+            if first < last.len() && row < self.rows.len() {
+                last[first] = Some(row);
                 self.rows[row] = with(self.rows[row], file, n);
             }
             places.push(row)?;

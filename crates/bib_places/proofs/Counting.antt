@@ -23,7 +23,8 @@ same-codes (MacroLabel a) (BytesLabel b) = refl
 same-codes (BytesLabel a) (EntryLabel b) = refl
 same-codes (BytesLabel a) (MacroLabel b) = refl
 
-count-cons : {X : Type 0} (test : X → Bool) (x : X) (xs : List X) → count_by test (x ∷ xs) ≡ cond (test x) 1 0 + count_by test xs
+-- one more element
+pub count-cons : {X : Type 0} (test : X → Bool) (x : X) (xs : List X) → count_by test (x ∷ xs) ≡ cond (test x) 1 0 + count_by test xs
 count-cons test x xs = sum_by-cons (λ y. cond (test y) 1 0) x xs
 
 -- a label is as often in a list as its code among the codes

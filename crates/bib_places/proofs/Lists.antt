@@ -27,6 +27,10 @@ gathered-more gives first xs n x old new lt is so_far =
     ∙ ap (λ l. old ++ flat_map gives l) (sym (drop-next xs n x lt))
     ∙ so_far
 
+-- the same of an element that was read
+pub gathered-next : {X Y : Type 0} (gives : X → List Y) (first : List Y) (xs : List X) (n : ℕ) (x : X) (old new : List Y) → n < length xs → x ≡ get_or xs n x → new ≡ old ++ gives x → IsGatheredTo gives first xs n old → IsGatheredTo gives first xs (n + 1) new
+gathered-next gives first xs n x old new lt read is so_far = gathered-more gives first xs n x old new lt (is ∙ ap (λ y. old ++ gives y) read) so_far
+
 pub gathered-all : {X Y : Type 0} (gives : X → List Y) (first : List Y) (xs : List X) (n : ℕ) (out : List Y) → length xs ≤ n → IsGatheredTo gives first xs n out → out ≡ first ++ flat_map gives xs
 gathered-all gives first xs n out past is = sym (append-nil out) ∙ ap (λ l. out ++ flat_map gives l) (sym (drop_all n xs past)) ∙ is
 

@@ -1,13 +1,15 @@
 -- The conflicts of a merge in the code.
+use Rattle.std.specs.Prelude.{map}
 use Rattle.merge_spec.specs.Conflicts as conflicts
 use Rattle.bib_units.specs.Labels.{label_seen}
+use Rattle.bib_fields.specs.PartsSeen.{part_seen}
 use Rattle.bib_places.specs.declared.conflicts.Change.{Change}
 use Rattle.bib_places.specs.declared.conflicts.Change.TheVariants as change
 use Rattle.bib_places.specs.declared.conflicts.Conflict.{Conflict}
 
 -- how two sides came into conflict, as the definitions have it
 abbrev pub change_seen : Change → conflicts.Change
-change_seen change.Changed = conflicts.Changed
+change_seen (change.Changed parts) = conflicts.Changed (map part_seen parts)
 change_seen change.BothAdded = conflicts.BothAdded
 change_seen change.RemovedByOurs = conflicts.RemovedByOurs
 change_seen change.RemovedByTheirs = conflicts.RemovedByTheirs

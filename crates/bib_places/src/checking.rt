@@ -24,7 +24,7 @@ fn are_settled<L: ItemList>(
     places: &[Place<'_>],
 ) -> Result<bool, AllocError>
     ensures { IfOk result (λ settled. settled ≡ true → (rb ro rt : Reading) → IsSide rb base.now.db.now base.now.units.now → IsSide ro ours.now.db.now ours.now.units.now
-        → IsSide rt theirs.now.db.now theirs.now.units.now → list_all (is_settled_in (units_of rb) (units_of ro) (units_of rt)) (map place_seen places.now) ≡ true) }
+        → IsSide rt theirs.now.db.now theirs.now.units.now → list_all (is_settled_in (units_of rb) (units_of ro) (units_of rt)) (map (place_seen (units_of ro) (units_of rt)) places.now) ≡ true) }
 {
     'places: for k in 0..places.len() {
         if !is_settled(alloc, base, ours, theirs, &places[k])? {
@@ -45,7 +45,7 @@ pub fn is_merge<L: ItemList>(
     places: &[Place<'_>],
 ) -> Result<bool, AllocError>
     ensures { IfOk result (λ merge. merge ≡ true → (rb ro rt : Reading) → IsSide rb base.now.db.now base.now.units.now → IsSide ro ours.now.db.now ours.now.units.now
-        → IsSide rt theirs.now.db.now theirs.now.units.now → is_merge (units_of rb) (units_of ro) (units_of rt) (map place_seen places.now) ≡ true) }
+        → IsSide rt theirs.now.db.now theirs.now.units.now → is_merge (units_of rb) (units_of ro) (units_of rt) (map (place_seen (units_of ro) (units_of rt)) places.now) ≡ true) }
 {
     if !are_once(alloc, base.units.len(), places, File::Base)? {
         return Ok(false);

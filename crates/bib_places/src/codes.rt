@@ -17,22 +17,22 @@ use bib_text::{Seq, Text};
 use bib_units::{Label, UnitView};
 use std::alloc::{AllocError, Global};
 
-/// The text with its letters in lower case.
-fn lower(alloc: Global, text: &[u8]) -> Result<Vec<u8>, AllocError>
-    ensures { IfOk result (λ lower. lower.items ≡ folded text.now) }
+/// The text after this byte.
+fn after(alloc: Global, first: u8, text: &[u8]) -> Result<Vec<u8>, AllocError>
+    ensures { IfOk result (λ bytes. bytes.items ≡ first ∷ text.now) }
 {
-    let mut bytes = Vec::from_slice(alloc, text)?;
-    bytes.make_ascii_lowercase();
+    let mut bytes = Vec::with_capacity(alloc, text.len().saturating_add(1))?;
+    bytes.push(first)?;
+    bytes.extend_from_slice(text)?;
     Ok(bytes)
 }
 
-/// The text after this byte.
-fn after(alloc: Global, first: u8, text: &[u8]) -> Result<Text, AllocError>
-    ensures { IfOk result (λ bytes. bytes ≡ first ∷ text.now) }
+/// The text in lower case after this byte, which is no letter.
+fn lower_after(alloc: Global, first: u8, text: &[u8]) -> Result<Text, AllocError>
+    ensures { IfOk result (λ bytes. bytes ≡ folded (first ∷ text.now)) }
 {
-    let mut bytes = Vec::new(alloc);
-    bytes.push(first)?;
-    bytes.extend_from_slice(text)?;
+    let mut bytes = after(alloc, first, text)?;
+    bytes.make_ascii_lowercase();
     Ok(Seq::from_vec(bytes))
 }
 
@@ -41,15 +41,9 @@ fn code_of(alloc: Global, label: Label<'_>) -> Result<Text, AllocError>
     ensures { IfOk result (λ code. code ≡ code_of (label_seen label.entry)) }
 {
     match label {
-        Label::Entry(key) => {
-            let key = lower(alloc, key)?;
-            after(alloc, 0, key.as_slice())
-        }
-        Label::Macro(name) => {
-            let name = lower(alloc, name)?;
-            after(alloc, 1, name.as_slice())
-        }
-        Label::Bytes(bytes) => after(alloc, 2, bytes),
+        Label::Entry(key) => lower_after(alloc, 0, key),
+        Label::Macro(name) => lower_after(alloc, 1, name),
+        Label::Bytes(bytes) => Ok(Seq::from_vec(after(alloc, 2, bytes)?)),
     }
 }
 
@@ -78,13 +72,14 @@ fn label_in<'a>(unit: Option<UnitView<'a>>) -> Option<Label<'a>>
 fn label_left<'a>(
     ours: Option<UnitView<'a>>,
     theirs: Option<UnitView<'a>>,
-    outcome: Outcome,
+    outcome: Outcome<'_>,
 ) -> Option<Label<'a>>
-    ensures { (ro rt : Reading) (o t : Option Unit) → MaySee ro ours.entry o → MaySee rt theirs.entry t → option_map label_seen result ≡ label_left o t (outcome_seen outcome) }
+    ensures { (ro rt : Reading) (o t : Option Unit) → MaySee ro ours.entry o → MaySee rt theirs.entry t → option_map label_seen result ≡ label_left o t (outcome_seen o t outcome.entry) }
 {
     match outcome {
         Outcome::Ours => label_in(ours),
         Outcome::Theirs => label_in(theirs),
+        Outcome::Mixed(_) => label_in(ours),
         Outcome::Gone => None,
         Outcome::Both => match ours {
             Some(unit) => Some(unit.label),
@@ -115,7 +110,7 @@ pub(crate) fn codes_left(
     places: &[Place<'_>],
 ) -> Result<Vec<Text>, AllocError>
     ensures { IfOk result (λ codes. (ro rt : Reading) (uo ut : List Spaced) → AreUnits ro ours.now uo → AreUnits rt theirs.now ut
-        → codes.items ≡ map code_of (labels_left (map (λ s. s.unit) uo) (map (λ s. s.unit) ut) (map place_seen places.now))) }
+        → codes.items ≡ map code_of (labels_left (map (λ s. s.unit) uo) (map (λ s. s.unit) ut) (map (place_seen (map (λ s. s.unit) uo) (map (λ s. s.unit) ut)) places.now))) }
 {
     let mut codes = Vec::new(alloc);
     'places: for k in 0..places.len() {

@@ -15,6 +15,7 @@ mod side;
 mod tally;
 mod writing;
 
+pub use bib_fields::{ChangedPart, Mix};
 pub use checking::is_merge;
 pub use conflicts::{Change, Conflict, conflicts_of};
 pub use place::{File, Outcome, Place};

@@ -3,13 +3,17 @@
 ghost use Rattle.std.specs.Prelude.{◌≡◌};
 ghost use Rattle.bib_places.specs.PlacesSeen.{number_in};
 
+use bib_fields::Mix;
+
 /// What becomes of the units that meet at a place.
-#[derive(Clone, Copy, Debug, PartialEq, Eq)]
-pub enum Outcome {
+#[derive(Clone, Copy)]
+pub enum Outcome<'a> {
     /// Our bytes.
     Ours,
     /// Their bytes.
     Theirs,
+    /// Our entry with their changes, field by field.
+    Mixed(Mix<'a>),
     /// Neither.
     Gone,
     /// Both, between markers.
@@ -25,12 +29,12 @@ pub enum File {
 }
 
 /// One place of a merge: the numbers of the units that meet there, what becomes of them, and the white space after it.
-#[derive(Clone, Copy, Debug)]
+#[derive(Clone, Copy)]
 pub struct Place<'a> {
     pub base: Option<usize>,
     pub ours: Option<usize>,
     pub theirs: Option<usize>,
-    pub outcome: Outcome,
+    pub outcome: Outcome<'a>,
     pub space: &'a [u8],
 }
 

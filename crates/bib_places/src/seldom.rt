@@ -45,7 +45,22 @@ fn are_all_seldom(
     Ok(true)
 }
 
-/// Whether no unit is in the merge twice because each side has added it.
+/// Whether each of these codes is there once.
+fn are_single(alloc: Global, merged: &[Text]) -> Result<bool, AllocError>
+    ensures { IfOk result (λ single. single ≡ true → list_all (λ code. nat_le (count_of code merged.now) 1) merged.now ≡ true) }
+{
+    let all = Tally::of(alloc, merged)?;
+    'codes: for k in 0..merged.len() {
+        let is_once = all.count(merged[k].as_slice()) <= 1;
+        if !is_once {
+            return Ok(false);
+        }
+    }
+    Ok(true)
+}
+
+/// Whether no unit is in the merge twice because each side has added it. What is there once is there no more often than in the file
+/// that it is from, so that the units of the two files are counted only if something is there twice.
 pub(crate) fn are_seldom(
     alloc: Global,
     ours: &[UnitView<'_>],
@@ -53,9 +68,13 @@ pub(crate) fn are_seldom(
     places: &[Place<'_>],
 ) -> Result<bool, AllocError>
     ensures { IfOk result (λ seldom. seldom ≡ true → (ro rt : Reading) (uo ut : List Spaced) → AreUnits ro ours.now uo → AreUnits rt theirs.now ut
-        → are_seldom (map (λ s. s.unit) uo) (map (λ s. s.unit) ut) (map place_seen places.now) ≡ true) }
+        → are_seldom (map (λ s. s.unit) uo) (map (λ s. s.unit) ut) (map (place_seen (map (λ s. s.unit) uo) (map (λ s. s.unit) ut)) places.now) ≡ true) }
 {
     let merged = codes_left(alloc, ours, theirs, places)?;
+    let single = are_single(alloc, merged.as_slice())?;
+    if single {
+        return Ok(true);
+    }
     let of_ours = codes_of(alloc, ours)?;
     let of_theirs = codes_of(alloc, theirs)?;
     let seldom = are_all_seldom(

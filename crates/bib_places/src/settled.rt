@@ -6,13 +6,15 @@ ghost use Rattle.bib_spec.specs.Text.{is_space};
 ghost use Rattle.bib_spec.specs.Reading.{Reading};
 ghost use Rattle.bib_store.specs.Readings.{OfReading};
 ghost use Rattle.merge_spec.specs.Units.{Unit, units_of};
-ghost use Rattle.merge_spec.specs.ThreeWay.{Ours as OursBecomes, Theirs as TheirsBecomes, Gone as GoneBecomes, Both as BothBecomes, may_become};
+ghost use Rattle.merge_spec.specs.ThreeWay.{Ours as OursBecomes, Theirs as TheirsBecomes, Gone as GoneBecomes, Both as BothBecomes, entry_of, may_become};
 ghost use Rattle.merge_spec.specs.Merged.{share_label, is_settled};
 ghost use Rattle.bib_places.specs.PlacesSeen.{MaySee, IsSide, outcome_seen, place_seen};
+ghost use Rattle.bib_fields.specs.MixSeen.{Mixes};
 
 use crate::becoming::{is_left, is_unchanged, share_label};
 use crate::place::{Outcome, Place};
-use crate::side::{Side, unit_at};
+use crate::side::{Side, item_of, unit_at};
+use bib_fields::{Mix, may_mix};
 use bib_store::{Database, ItemList};
 use bib_text::is_space;
 use bib_units::UnitView;
@@ -100,6 +102,27 @@ fn may_be_both<L: ItemList>(
     Ok(!goes)
 }
 
+/// Whether the unit may be this merged entry.
+fn may_be_mixed<L: ItemList>(
+    alloc: Global,
+    base: &Database<L>,
+    ours: &Database<L>,
+    theirs: &Database<L>,
+    met: Met<'_>,
+    mix: Mix<'_>,
+) -> Result<bool, AllocError>
+    ensures { IfOk result (λ may. may ≡ true → OfReading base.now (λ rb. OfReading ours.now (λ ro. OfReading theirs.now (λ rt. (b o t : Option Unit)
+        → MaySee rb met.entry.base b → MaySee ro met.entry.ours o → MaySee rt met.entry.theirs t → Mixes (entry_of b) (entry_of o) (entry_of t) mix.entry)))) }
+{
+    match (item_of(met.base), item_of(met.ours), item_of(met.theirs)) {
+        (Some(b), Some(o), Some(t)) => {
+            let may = may_mix(alloc, base, b, ours, o, theirs, t, mix)?;
+            Ok(may)
+        }
+        _ => Ok(false),
+    }
+}
+
 /// Whether the units may become this.
 fn may_become<L: ItemList>(
     alloc: Global,
@@ -107,10 +130,10 @@ fn may_become<L: ItemList>(
     ours: &Database<L>,
     theirs: &Database<L>,
     met: Met<'_>,
-    outcome: Outcome,
+    outcome: Outcome<'_>,
 ) -> Result<bool, AllocError>
-    ensures { IfOk result (λ may. OfReading base.now (λ rb. OfReading ours.now (λ ro. OfReading theirs.now (λ rt. (b o t : Option Unit)
-        → MaySee rb met.entry.base b → MaySee ro met.entry.ours o → MaySee rt met.entry.theirs t → may ≡ may_become b o t (outcome_seen outcome))))) }
+    ensures { IfOk result (λ may. may ≡ true → OfReading base.now (λ rb. OfReading ours.now (λ ro. OfReading theirs.now (λ rt. (b o t : Option Unit)
+        → MaySee rb met.entry.base b → MaySee ro met.entry.ours o → MaySee rt met.entry.theirs t → may_become b o t (outcome_seen o t outcome.entry) ≡ true)))) }
 {
     match outcome {
         Outcome::Ours => {
@@ -118,6 +141,10 @@ fn may_become<L: ItemList>(
             Ok(may)
         }
         Outcome::Theirs => Ok(may_be_theirs(met)),
+        Outcome::Mixed(mix) => {
+            let may = may_be_mixed(alloc, base, ours, theirs, met, mix)?;
+            Ok(may)
+        }
         Outcome::Gone => {
             let may = may_go(alloc, base, ours, theirs, met)?;
             Ok(may)
@@ -155,7 +182,7 @@ pub(crate) fn is_settled<L: ItemList>(
     place: &Place<'_>,
 ) -> Result<bool, AllocError>
     ensures { IfOk result (λ settled. settled ≡ true → (rb ro rt : Reading) → IsSide rb base.now.db.now base.now.units.now → IsSide ro ours.now.db.now ours.now.units.now
-        → IsSide rt theirs.now.db.now theirs.now.units.now → is_settled (units_of rb) (units_of ro) (units_of rt) (place_seen place.now) ≡ true) }
+        → IsSide rt theirs.now.db.now theirs.now.units.now → is_settled (units_of rb) (units_of ro) (units_of rt) (place_seen (units_of ro) (units_of rt) place.now) ≡ true) }
 {
     let met = Met {
         base: unit_at(base.units, place.base),

@@ -1,11 +1,11 @@
 //! One of the files of a merge, with its units.
 
-ghost use Rattle.std.specs.Prelude.{◌≡◌, List, map, slice_get};
+ghost use Rattle.std.specs.Prelude.{◌≡◌, List, Option, map, slice_get, IfSome};
 ghost use Rattle.bib_spec.specs.Reading.{Reading};
-ghost use Rattle.merge_spec.specs.Units.{Spaced};
+ghost use Rattle.merge_spec.specs.Units.{Unit, Spaced};
 ghost use Rattle.merge_spec.specs.Merged.{unit_at};
 ghost use Rattle.bib_units.specs.UnitsSeen.{AreUnits};
-ghost use Rattle.bib_places.specs.PlacesSeen.{MaySee};
+ghost use Rattle.bib_places.specs.PlacesSeen.{MaySee, IsItemUnit};
 
 use bib_store::{Database, ItemList};
 use bib_units::UnitView;
@@ -33,6 +33,16 @@ pub(crate) fn unit_at<'a>(units: &[UnitView<'a>], number: Option<usize>) -> Opti
 {
     match number {
         Some(n) => unit_with(units, n),
+        None => None,
+    }
+}
+
+/// The number of the item that a unit is, if it is there and no text.
+pub(crate) fn item_of(unit: Option<UnitView<'_>>) -> Option<usize>
+    ensures { (r : Reading) (u : Option Unit) → MaySee r unit.entry u → IfSome result (λ n. IsItemUnit r n u) }
+{
+    match unit {
+        Some(unit) => unit.item,
         None => None,
     }
 }

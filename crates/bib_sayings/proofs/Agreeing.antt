@@ -12,11 +12,11 @@ use Rattle.folded_map.specs.FoldedMap.{value_at}
 use Rattle.merge_spec.specs.ThreeWay.{Said, is_row, said_in, alike, agree_on}
 use Rattle.bib_sayings.specs.FieldTables.{names_of, IsTableOfRows, same_texts}
 
-abbrev IsRowValue : Row → Type 0
+abbrev pub IsRowValue : Row → Type 0
 IsRowValue row = IsValue name_limit row.assignment.value
 
 -- the value of the row that is found
-found-value : (name : Text) (rows : List Row) (row : Row) → AllByRecursion IsRowValue rows → find (is_row name) rows ≡ Some row → IsRowValue row
+pub found-value : (name : Text) (rows : List Row) (row : Row) → AllByRecursion IsRowValue rows → find (is_row name) rows ≡ Some row → IsRowValue row
 found-value name [] row all is = cc
 found-value name (r ∷ rows) row all is = at (is_row name r) is (λ e. found-value name rows row all.1 e)
   where
@@ -25,10 +25,10 @@ found-value name (r ∷ rows) row all is = at (is_row name r) is (λ e. found-va
     at false e later = later e
 
 -- a row, as what it says
-abbrev said_of : Macros → Row → Said
+abbrev pub said_of : Macros → Row → Said
 said_of m row = record { bytes = value_bytes row.assignment.value; text = field_text (raw_text m row.assignment.value) }
 
-abbrev value_of : Row → Text
+abbrev pub value_of : Row → Text
 value_of row = value_bytes row.assignment.value
 
 -- the answer about two values is that about the rows that have them

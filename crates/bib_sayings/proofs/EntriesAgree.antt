@@ -18,16 +18,16 @@ use Rattle.merge_spec.specs.ThreeWay.{is_row, are_single, agree_on, entries_agre
 use Rattle.bib_sayings.specs.FieldTables.{names_of, value_named, IsTableFound, IsTableOfRows}
 
 -- the fields of an entry are those of its rows
-fields-rows : (e : Entry) → IsEntry name_limit e → AllZip IsFieldOf (fields_of (EntryTree e)) e.rows
+pub fields-rows : (e : Entry) → IsEntry name_limit e → AllZip IsFieldOf (fields_of (EntryTree e)) e.rows
 fields-rows e is = zip_rows (opening_bytes e.opening ++ e.key ++ e.space_after_key) e.rows (recursion_from_All (IsRow name_limit) e.rows is.rows)
 
-names-rows : (fields : List Field) (rows : List Row) → AllZip IsFieldOf fields rows → names_of fields ≡ three.names_of rows
+pub names-rows : (fields : List Field) (rows : List Row) → AllZip IsFieldOf fields rows → names_of fields ≡ three.names_of rows
 names-rows [] [] zip = refl
 names-rows [] (row ∷ rows) zip = absurd zip
 names-rows (f ∷ fields) [] zip = absurd zip
 names-rows (f ∷ fields) (row ∷ rows) zip = ap₂ (λ (n : Text) (l : List Text). n ∷ l) zip.0.name (names-rows fields rows zip.1)
 
-named-row : (name : Text) (fields : List Field) (rows : List Row) → AllZip IsFieldOf fields rows → value_named fields name ≡ option_map (λ row. value_bytes row.assignment.value) (find (is_row name) rows)
+pub named-row : (name : Text) (fields : List Field) (rows : List Row) → AllZip IsFieldOf fields rows → value_named fields name ≡ option_map (λ row. value_bytes row.assignment.value) (find (is_row name) rows)
 named-row name [] [] zip = refl
 named-row name [] (row ∷ rows) zip = absurd zip
 named-row name (f ∷ fields) [] zip = absurd zip
@@ -40,18 +40,18 @@ named-row name (f ∷ fields) (row ∷ rows) zip =
     at true later = ap Some (sym zip.0.value)
     at false later = later
 
-values-of : (fields : List Field) (rows : List Row) → AllZip IsFieldOf fields rows → AllByRecursion (λ row. IsValue name_limit row.assignment.value) rows
+pub values-of : (fields : List Field) (rows : List Row) → AllZip IsFieldOf fields rows → AllByRecursion (λ row. IsValue name_limit row.assignment.value) rows
 values-of [] [] zip = tt
 values-of [] (row ∷ rows) zip = absurd zip
 values-of (f ∷ fields) [] zip = absurd zip
 values-of (f ∷ fields) (row ∷ rows) zip = (zip.0.is, values-of fields rows zip.1)
 
-rows-table : (table : List (Text × Bor Text)) (e : Entry) (fields : List Field) → IsEntry name_limit e → fields ≡ fields_of (EntryTree e) → IsTableFound (Some table) fields → IsTableOfRows table e.rows
+pub rows-table : (table : List (Text × Bor Text)) (e : Entry) (fields : List Field) → IsEntry name_limit e → fields ≡ fields_of (EntryTree e) → IsTableFound (Some table) fields → IsTableOfRows table e.rows
 rows-table table e fields is fields_are found =
     let zip = subst (λ fs. AllZip IsFieldOf fs e.rows) (sym fields_are) (fields-rows e is) in
     record { named = λ name. found.1 name ∙ named-row name fields e.rows zip; values = values-of fields e.rows zip }
 
-names-of_entry : (e : Entry) (fields : List Field) → IsEntry name_limit e → fields ≡ fields_of (EntryTree e) → names_of fields ≡ three.names_of e.rows
+pub names-of_entry : (e : Entry) (fields : List Field) → IsEntry name_limit e → fields ≡ fields_of (EntryTree e) → names_of fields ≡ three.names_of e.rows
 names-of_entry e fields is fields_are = ap names_of fields_are ∙ names-rows (fields_of (EntryTree e)) e.rows (fields-rows e is)
 
 module _ (ma mb : Macros) (ea eb : Entry) (is_a : IsEntry name_limit ea) (is_b : IsEntry name_limit eb) (fa fb : List Field)

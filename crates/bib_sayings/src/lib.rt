@@ -11,3 +11,4 @@ mod texts;
 
 pub use field_table::{FieldTable, table_of};
 pub use items::items_agree;
+pub use texts::field_text_of;

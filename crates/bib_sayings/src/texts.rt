@@ -39,8 +39,8 @@ pub(crate) fn raw_text_of<M: MacroTable>(
     }
 }
 
-/// The field text of a value.
-pub(crate) fn field_text_of<M: MacroTable>(
+/// The field text of a value. It takes time and memory in the lengths of the value and of its text.
+pub fn field_text_of<M: MacroTable>(
     alloc: Global,
     value: &[u8],
     macros: &M,

@@ -1,27 +1,16 @@
 //! The lines that tell conflicts.
 
-ghost use Rattle.std.specs.Prelude.{◌≡◌, ◌++◌, map, IfOk, OnOk};
+ghost use Rattle.std.specs.Prelude.{◌≡◌, ◌++◌, codes, map, IfOk, OnOk};
 ghost use Rattle.std.specs.List.{flat_map};
 ghost use Rattle.bib_spec.specs.Text.{folded};
 ghost use Rattle.bib_units.specs.Labels.{label_seen};
+ghost use Rattle.bib_fields.specs.PartsSeen.{part_seen};
 ghost use Rattle.bib_places.specs.ConflictsSeen.{change_seen, conflict_seen};
-ghost use Rattle.merge_run.specs.Lines.{change_words, label_words, conflict_line, conflict_lines, lost_line, told_lines};
+ghost use Rattle.merge_run.specs.Lines.{line, label_words, name_words, part_words, change_lines, conflict_lines, lost_line, told_lines};
 
-use bib_merge::{Change, Conflict, Label};
+use bib_merge::{Change, ChangedPart, Conflict, Label};
 use bib_text::Text;
 use std::alloc::{AllocError, Global};
-
-/// The words for how two sides came into conflict.
-fn change_words(change: Change) -> &'static [u8]
-    ensures { result.now ≡ change_words (change_seen change) }
-{
-    match change {
-        Change::Changed => b"",
-        Change::BothAdded => b"both added ",
-        Change::RemovedByOurs => b"removed by ours ",
-        Change::RemovedByTheirs => b"removed by theirs ",
-    }
-}
 
 /// Adds the name in lower case.
 fn add_lower(alloc: Global, out: &mut Vec<u8>, name: &[u8]) -> Result<(), AllocError>
@@ -51,14 +40,110 @@ fn add_label(alloc: Global, out: &mut Vec<u8>, label: Label<'_>) -> Result<(), A
     Ok(())
 }
 
-/// Adds the line of a conflict.
-fn add_line(alloc: Global, out: &mut Vec<u8>, conflict: Conflict<'_>) -> Result<(), AllocError>
-    ensures { OnOk result (out.new.items ≡ out.old.items ++ conflict_line (conflict_seen conflict.entry)) }
+/// Adds the key or the name of a unit with this label.
+fn add_name(alloc: Global, out: &mut Vec<u8>, label: Label<'_>) -> Result<(), AllocError>
+    ensures { OnOk result (out.new.items ≡ out.old.items ++ name_words (label_seen label.entry)) }
+{
+    match label {
+        Label::Entry(key) => add_lower(alloc, out, key)?,
+        Label::Macro(name) => add_lower(alloc, out, name)?,
+        Label::Bytes(_) => out.extend_from_slice(b"text")?,
+    }
+    Ok(())
+}
+
+/// Adds the words for a field of a unit with this label.
+fn add_field(
+    alloc: Global,
+    out: &mut Vec<u8>,
+    label: Label<'_>,
+    name: &[u8],
+) -> Result<(), AllocError>
+    ensures { OnOk result (out.new.items ≡ out.old.items ++ (codes "field " ++ (name_words (label_seen label.entry) ++ (codes " " ++ name.now)))) }
+{
+    out.extend_from_slice(b"field ")?;
+    add_name(alloc, out, label)?;
+    out.extend_from_slice(b" ")?;
+    out.extend_from_slice(name)?;
+    Ok(())
+}
+
+/// Adds the words for a part of a unit with this label that both sides changed.
+fn add_part(
+    alloc: Global,
+    out: &mut Vec<u8>,
+    label: Label<'_>,
+    part: &ChangedPart,
+) -> Result<(), AllocError>
+    ensures { OnOk result (out.new.items ≡ out.old.items ++ part_words (label_seen label.entry) (part_seen part.now)) }
+{
+    match part {
+        ChangedPart::Whole => add_label(alloc, out, label)?,
+        ChangedPart::TypeName => {
+            out.extend_from_slice(b"type ")?;
+            add_name(alloc, out, label)?;
+        }
+        ChangedPart::Field(name) => add_field(alloc, out, label, name.as_slice())?,
+    }
+    Ok(())
+}
+
+/// Adds the line of a part of a unit with this label that both sides changed.
+fn add_part_line(
+    alloc: Global,
+    out: &mut Vec<u8>,
+    label: Label<'_>,
+    part: &ChangedPart,
+) -> Result<(), AllocError>
+    ensures { OnOk result (out.new.items ≡ out.old.items ++ line (part_words (label_seen label.entry) (part_seen part.now))) }
 {
     out.extend_from_slice(b"conflict ")?;
-    out.extend_from_slice(change_words(conflict.change))?;
-    add_label(alloc, out, conflict.label)?;
+    add_part(alloc, out, label, part)?;
     out.push(b'\n')?;
+    Ok(())
+}
+
+/// Adds the lines of parts of a unit with this label that both sides changed.
+fn add_part_lines(
+    alloc: Global,
+    out: &mut Vec<u8>,
+    label: Label<'_>,
+    parts: &[ChangedPart],
+) -> Result<(), AllocError>
+    ensures { OnOk result (out.new.items ≡ out.old.items ++ flat_map (λ part. line (part_words (label_seen label.entry) part)) (map part_seen parts.now)) }
+{
+    'parts: for k in 0..parts.len() {
+        add_part_line(alloc, out, label, &parts[k])?;
+    }
+    Ok(())
+}
+
+/// Adds the line of a conflict over a unit with this label that begins with these words.
+fn add_line(
+    alloc: Global,
+    out: &mut Vec<u8>,
+    words: &[u8],
+    label: Label<'_>,
+) -> Result<(), AllocError>
+    ensures { OnOk result (out.new.items ≡ out.old.items ++ line (words.now ++ label_words (label_seen label.entry))) }
+{
+    out.extend_from_slice(b"conflict ")?;
+    out.extend_from_slice(words)?;
+    add_label(alloc, out, label)?;
+    out.push(b'\n')?;
+    Ok(())
+}
+
+/// Adds the lines of a conflict.
+fn add_lines(alloc: Global, out: &mut Vec<u8>, conflict: &Conflict<'_>) -> Result<(), AllocError>
+    ensures { OnOk result (out.new.items ≡ out.old.items ++ change_lines (label_seen conflict.now.label) (change_seen conflict.now.change)) }
+{
+    match &conflict.change {
+        Change::Changed(parts) => add_part_lines(alloc, out, conflict.label, parts.as_slice())?,
+        Change::BothAdded => add_line(alloc, out, b"both added ", conflict.label)?,
+        Change::RemovedByOurs => add_line(alloc, out, b"removed by ours ", conflict.label)?,
+        Change::RemovedByTheirs => add_line(alloc, out, b"removed by theirs ", conflict.label)?,
+    }
     Ok(())
 }
 
@@ -71,7 +156,7 @@ fn add_conflicts(
     ensures { OnOk result (out.new.items ≡ out.old.items ++ conflict_lines (map conflict_seen conflicts.now)) }
 {
     'conflicts: for k in 0..conflicts.len() {
-        add_line(alloc, out, conflicts[k])?;
+        add_lines(alloc, out, &conflicts[k])?;
     }
     Ok(())
 }

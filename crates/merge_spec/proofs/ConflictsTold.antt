@@ -11,7 +11,7 @@ use Rattle.merge_spec.specs.Laws.{conflicts_are_all_told}
 more : (b o t : Option Unit) (outcome : Outcome) (conflicts : List Conflict) (rest : Bool) → is_any conflicts ≡ rest → is_any (conflict_over b o t outcome ++ conflicts) ≡ (are_both outcome || rest)
 more b o t Ours conflicts rest is = is
 more b o t Theirs conflicts rest is = is
-more b o t (Mixed kind key rows) conflicts rest is = is
+more b o t (Mixed kind key space rows) conflicts rest is = is
 more b o t Gone conflicts rest is = is
 more b o t Both conflicts rest is = refl
 

@@ -99,7 +99,7 @@ unit_there units n (Some m) h is =
 ours_kept : (b o t : Option Unit) (outcome : Outcome) → is_none o ≡ false → may_become b o t outcome ≡ true → is_ours_kept b o t outcome ≡ true
 ours_kept b None t outcome there may = absurd (true≢false there)
 ours_kept b (Some o) t Ours there may = refl
-ours_kept b (Some o) t (Mixed kind key rows) there may = refl
+ours_kept b (Some o) t (Mixed kind key space rows) there may = refl
 ours_kept b (Some o) t Both there may = refl
 ours_kept b (Some o) t Theirs there may = (and_parts _ _ may).1
 ours_kept b (Some o) t Gone there may = ⊎_elim (λ e. e) (λ e. absurd (true≢false (sym e))) (or_cases _ _ may)
@@ -107,7 +107,7 @@ ours_kept b (Some o) t Gone there may = ⊎_elim (λ e. e) (λ e. absurd (true�
 theirs_kept : (b o t : Option Unit) (outcome : Outcome) → is_none t ≡ false → may_become b o t outcome ≡ true → is_theirs_kept b o t outcome ≡ true
 theirs_kept b o None outcome there may = absurd (true≢false there)
 theirs_kept b o (Some t) Theirs there may = refl
-theirs_kept b o (Some t) (Mixed kind key rows) there may = refl
+theirs_kept b o (Some t) (Mixed kind key space rows) there may = refl
 theirs_kept b o (Some t) Both there may = refl
 theirs_kept b o (Some t) Ours there may = (and_parts _ _ may).1
 theirs_kept b o (Some t) Gone there may =

@@ -3,9 +3,10 @@ use Rattle.std.specs.Prelude.{ℕ, ◌≡◌, Bool, true, false, List, [], ◌�
 use Rattle.bib_spec.specs.Text.{Text}
 use Rattle.bib_spec.specs.Tree.{Part, Braced, Quoted, Digits, Macro, Value, Assignment, Row, Brace, Opening, Tree, DefinitionTree, EntryTree}
 use Rattle.bib_spec.specs.Reading.{Item, Reading, bytes_of}
-use Rattle.merge_spec.specs.Units.{units_of, first_space}
+use Rattle.merge_spec.specs.Units.{units_of, first_space, EntryLabel}
 use Rattle.merge_spec.specs.ThreeWay.{Outcome, Ours, Theirs, Mixed, Gone, Both}
 use Rattle.merge_spec.specs.Merged.{Place, merged_bytes, is_merge}
+use Rattle.merge_spec.specs.Conflicts.{ChangedPart, Whole, TheType, TheField, Changed, Conflict, conflicts_of}
 use Rattle.merge_spec.specs.Names.{parent_key, may_name}
 
 -- ---- small files
@@ -126,7 +127,7 @@ a_with rows = file (misc (codes "a") rows ∷ [])
 
 -- the entry `a` of three files, with these rows
 abbrev pub mixed_to : List Row → List Place
-mixed_to rows = place (Some 0) (Some 0) (Some 0) (Mixed (codes "misc") (codes "a") rows) lf ∷ []
+mixed_to rows = place (Some 0) (Some 0) (Some 0) (Mixed (codes "misc") (codes "a") [] rows) lf ∷ []
 
 -- `1`
 abbrev pub one : Value
@@ -165,6 +166,27 @@ pub record FieldIsInConflict : Type 0 where
       (codes "<<<<<<< ours\n@misc{a,\n  t = {x},\n  u = 2\n}\n=======\n@misc{a,\n  t = {y},\n  u = 2\n}\n>>>>>>> theirs\n")
   pub ours : MergesNot (file (a ∷ [])) (a_with (rows x two)) (a_with (rows y two)) (mixed_to (rows x two))
   pub theirs : MergesNot (file (a ∷ [])) (a_with (rows x two)) (a_with (rows y two)) (mixed_to (rows y two))
+
+-- both versions of an entry of three files
+abbrev pub both_of_one : List Place
+both_of_one = place (Some 0) (Some 0) (Some 0) Both lf ∷ []
+
+-- a conflict over these parts of the entry `a`
+abbrev pub over_a : List ChangedPart → List Conflict
+over_a parts = record { change = Changed parts; label = EntryLabel (codes "a") } ∷ []
+
+-- the entry `a` of this type alone in a file
+abbrev pub typed : Text → List Row → Reading
+typed kind rows = file (entry kind (codes "a") rows lf ∷ [])
+
+-- what is told: each field in conflict and the type before them, or the entry if a field is there twice
+pub record PartsAreTold : Type 0 where
+  pub field : conflicts_of (units_of (file (a ∷ []))) (units_of (a_with (rows x two))) (units_of (a_with (rows y two))) both_of_one ≡ over_a (TheField (codes "t") ∷ [])
+  pub each : conflicts_of (units_of (file (a ∷ []))) (units_of (typed (codes "book") (rows x (braced (codes "2 b")))))
+      (units_of (typed (codes "Online") (row (codes "U") y ∷ (row (codes "T") y ∷ [])))) both_of_one
+      ≡ over_a (TheType ∷ (TheField (codes "t") ∷ (TheField (codes "u") ∷ [])))
+  pub dropped : conflicts_of (units_of (file (a ∷ []))) (units_of (a_with (row (codes "u") two ∷ []))) (units_of (a_with (rows y two))) both_of_one ≡ over_a (TheField (codes "t") ∷ [])
+  pub whole : conflicts_of (units_of (file (a ∷ []))) (units_of (a_with (rows x two))) (units_of (a_with (row (codes "t") y ∷ (row (codes "T") y ∷ [])))) both_of_one ≡ over_a (Whole ∷ [])
 
 -- one side sets a field, the other writes the same value in other bytes: ours is there
 abbrev pub OtherBytesAreNoChange : Type 0

@@ -15,7 +15,7 @@ units_are_the_file = (db : Reading) → first_space db ++ flat_map spaced_bytes 
 -- goes, and theirs took it away and we left it.
 abbrev pub is_ours_kept : Option Unit → Option Unit → Option Unit → Outcome → Bool
 is_ours_kept b o t Ours = true
-is_ours_kept b o t (Mixed kind key rows) = true
+is_ours_kept b o t (Mixed kind key space rows) = true
 is_ours_kept b o t Both = true
 is_ours_kept b o t Theirs = is_left b o
 is_ours_kept b o t Gone = is_none t && is_unchanged b o
@@ -24,7 +24,7 @@ is_ours_kept b o t Gone = is_none t && is_unchanged b o
 -- it goes, and ours took it away and they left it.
 abbrev pub is_theirs_kept : Option Unit → Option Unit → Option Unit → Outcome → Bool
 is_theirs_kept b o t Theirs = true
-is_theirs_kept b o t (Mixed kind key rows) = true
+is_theirs_kept b o t (Mixed kind key space rows) = true
 is_theirs_kept b o t Both = true
 is_theirs_kept b o t Ours = is_unchanged b t || is_unchanged o t
 is_theirs_kept b o t Gone = is_none o && is_unchanged b t

@@ -31,15 +31,15 @@ version u = option_map_or (λ u. unit_bytes u ++ line_feed ∷ []) u []
 abbrev pub conflict_bytes : Option Unit → Option Unit → Text
 conflict_bytes o t = codes "<<<<<<< ours\n" ++ version o ++ codes "=======\n" ++ version t ++ codes ">>>>>>> theirs"
 
--- the bytes of our entry with this type, key and rows
-abbrev pub mixed_bytes : Option Unit → Text → Text → List Row → Text
-mixed_bytes o kind key rows = option_map_or (λ e. tree_bytes (EntryTree (entry_like e.1 kind key rows))) (entry_of o) []
+-- the bytes of our entry with this type, key, white space after the key, and rows
+abbrev pub mixed_bytes : Option Unit → Text → Text → Text → List Row → Text
+mixed_bytes o kind key space rows = option_map_or (λ e. tree_bytes (EntryTree (entry_like e.1 kind key space rows))) (entry_of o) []
 
 -- the bytes of what became of a unit, and of the white space after it
 abbrev pub outcome_bytes : Option Unit → Option Unit → Text → Outcome → Text
 outcome_bytes o t space Ours = option_map_or unit_bytes o [] ++ space
 outcome_bytes o t space Theirs = option_map_or unit_bytes t [] ++ space
-outcome_bytes o t space (Mixed kind key rows) = mixed_bytes o kind key rows ++ space
+outcome_bytes o t space (Mixed kind key within rows) = mixed_bytes o kind key within rows ++ space
 outcome_bytes o t space Gone = []
 outcome_bytes o t space Both = conflict_bytes o t ++ space
 
@@ -80,7 +80,7 @@ is_settled base ours theirs p =
 abbrev pub label_left : Option Unit → Option Unit → Outcome → Option Label
 label_left o t Ours = option_map_or (λ u. Some (label_of u)) o None
 label_left o t Theirs = option_map_or (λ u. Some (label_of u)) t None
-label_left o t (Mixed kind key rows) = option_map_or (λ u. Some (label_of u)) o None
+label_left o t (Mixed kind key space rows) = option_map_or (λ u. Some (label_of u)) o None
 label_left o t Gone = None
 label_left o t Both = option_map_or (λ u. Some (label_of u)) o (option_map_or (λ u. Some (label_of u)) t None)
 

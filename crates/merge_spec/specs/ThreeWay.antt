@@ -2,7 +2,7 @@
 use Rattle.std.specs.Prelude.{ℕ, Bool, true, false, ◌&&◌, ◌||◌, not, ◌==◌, List, [], ◌∷◌, ◌++◌, map, find, Option, Some, None, is_some, is_none, option_map, option_and_then, bytes_eq}
 use Rattle.std.specs.List.{flat_map, list_all, list_any}
 use Rattle.std.specs.Option.{option_map_or}
-use Rattle.bib_spec.specs.Text.{Text, folded, same}
+use Rattle.bib_spec.specs.Text.{Text, is_space, folded, same}
 use Rattle.bib_spec.specs.Tree.{Value, Row, Head, Opening, Definition, Entry, Tree, CommentTree, DefinitionTree, PreambleTree, EntryTree, value_bytes}
 use Rattle.bib_spec.specs.Texts.{Macros, raw_text, macros_in, field_text, row_start}
 use Rattle.merge_spec.specs.Units.{Unit, unit_bytes}
@@ -95,28 +95,38 @@ is_unchanged = alike says_the_same
 
 -- ---- by fields
 
+-- the two fields have the same value, byte for byte
+abbrev pub same_value : Said → Said → Bool
+same_value x y = bytes_eq x.bytes y.bytes
+
+-- the two fields have the same value, or it says the same in other bytes
+abbrev pub fields_agree : Said → Said → Bool
+fields_agree x y = bytes_eq x.bytes y.bytes || bytes_eq x.text y.text
+
 -- The field of the merged entry is ours, if they left it or we agree with them; it is theirs, if we left it. Fields are left if
 -- they say what they said.
 abbrev pub is_field_of_three : Option Said → Option Said → Option Said → Option Said → Bool
 is_field_of_three b o t merged =
-    let same_value : Said → Said → Bool = λ x y. bytes_eq x.bytes y.bytes in
-    let unchanged : Said → Said → Bool = λ x y. bytes_eq x.bytes y.bytes || bytes_eq x.text y.text in
-    (alike same_value merged o && (alike unchanged b t || alike unchanged o t)) || (alike same_value merged t && alike unchanged b o)
+    (alike same_value merged o && (alike fields_agree b t || alike fields_agree o t)) || (alike same_value merged t && alike fields_agree b o)
 
 -- the type is ours, if they left it or we agree with them; it is theirs, if we left it
 abbrev pub is_type_of_three : Text → Text → Text → Text → Bool
 is_type_of_three b o t merged = (bytes_eq merged o && (same b t || same o t)) || (bytes_eq merged t && same b o)
 
--- our entry with another type, key and rows
-abbrev pub entry_like : Entry → Text → Text → List Row → Entry
-entry_like o kind key rows =
+-- our entry with another type, key, white space after the key, and rows
+abbrev pub entry_like : Entry → Text → Text → Text → List Row → Entry
+entry_like o kind key space rows =
     let head : Head = o.opening.head in
     let opening : Opening = o.opening in
-    record o { opening = record opening { head = record head { type_name = kind } }; key = key; rows = rows }
+    record o { opening = record opening { head = record head { type_name = kind } }; key = key; space_after_key = space; rows = rows }
 
 -- the bytes before the value of each of these rows are those of one of the others
 abbrev pub begin_as : List Row → List Row → Bool
 begin_as rows others = list_all (λ row. list_any (λ other. bytes_eq (row_start row) (row_start other)) others) rows
+
+-- only white space follows the value of each of these rows
+abbrev pub end_in_space : List Row → Bool
+end_in_space rows = list_all (λ row. list_all is_space row.assignment.space_after) rows
 
 -- what three macros tables make of a field of each of four entries
 abbrev pub is_row_of_three : Macros → Entry → Macros → Entry → Macros → Entry → List Row → Text → Bool
@@ -125,12 +135,13 @@ is_row_of_three mb b mo o mt t rows name =
     is_field_of_three (said_in mb b.rows name) (said_in mo o.rows name) (said_in mt t.rows name) (said_in mo rows name)
 
 -- The type, the key and these rows are those of our entry with their changes: each field once, each type, key, beginning of a row
--- and value from one of the two sides.
-abbrev pub is_mixed : Macros → Entry → Macros → Entry → Macros → Entry → Text → Text → List Row → Bool
-is_mixed mb b mo o mt t kind key rows =
+-- and value from one of the two sides, and white space between them.
+abbrev pub is_mixed : Macros → Entry → Macros → Entry → Macros → Entry → Text → Text → Text → List Row → Bool
+is_mixed mb b mo o mt t kind key space rows =
     are_single (names_of b.rows) && are_single (names_of o.rows) && are_single (names_of t.rows) && are_single (names_of rows)
     && is_type_of_three b.opening.head.type_name o.opening.head.type_name t.opening.head.type_name kind
     && (bytes_eq key o.key || bytes_eq key t.key)
+    && list_all is_space space && end_in_space rows
     && begin_as rows (o.rows ++ t.rows)
     && list_all (is_row_of_three mb b mo o mt t rows) (names_of (b.rows ++ o.rows ++ t.rows ++ rows))
 
@@ -140,8 +151,8 @@ is_mixed mb b mo o mt t kind key rows =
 pub data Outcome : Type 0 where
   -- our bytes, or their bytes
   Ours Theirs : Outcome
-  -- our entry with this type, this key and these rows
-  Mixed : Text → Text → List Row → Outcome
+  -- our entry with this type, this key, this white space after the key, and these rows
+  Mixed : Text → Text → Text → List Row → Outcome
   -- neither
   Gone : Outcome
   -- both, between markers
@@ -160,11 +171,11 @@ abbrev pub entry_of : Option Unit → Option (Macros × Entry)
 entry_of u = option_and_then (λ v. entry_with v.macros v.tree) u
 
 -- the three are entries, and are mixed so
-abbrev pub may_mix : Option (Macros × Entry) → Option (Macros × Entry) → Option (Macros × Entry) → Text → Text → List Row → Bool
-may_mix (Some b) (Some o) (Some t) kind key rows = is_mixed b.0 b.1 o.0 o.1 t.0 t.1 kind key rows
-may_mix None o t kind key rows = false
-may_mix (Some b) None t kind key rows = false
-may_mix (Some b) (Some o) None kind key rows = false
+abbrev pub may_mix : Option (Macros × Entry) → Option (Macros × Entry) → Option (Macros × Entry) → Text → Text → Text → List Row → Bool
+may_mix (Some b) (Some o) (Some t) kind key space rows = is_mixed b.0 b.1 o.0 o.1 t.0 t.1 kind key space rows
+may_mix None o t kind key space rows = false
+may_mix (Some b) None t kind key space rows = false
+may_mix (Some b) (Some o) None kind key space rows = false
 
 -- ours stays if they left the unit, or say what we say
 abbrev pub may_be_ours : Option Unit → Option Unit → Option Unit → Bool
@@ -183,6 +194,6 @@ may_go b o t = (is_none o && is_unchanged b t) || (is_none t && is_unchanged b o
 abbrev pub may_become : Option Unit → Option Unit → Option Unit → Outcome → Bool
 may_become b o t Ours = may_be_ours b o t
 may_become b o t Theirs = may_be_theirs b o t
-may_become b o t (Mixed kind key rows) = may_mix (entry_of b) (entry_of o) (entry_of t) kind key rows
+may_become b o t (Mixed kind key space rows) = may_mix (entry_of b) (entry_of o) (entry_of t) kind key space rows
 may_become b o t Gone = may_go b o t
 may_become b o t Both = not (may_be_ours b o t || may_be_theirs b o t || may_go b o t)

@@ -1,6 +1,6 @@
 //! What the definitions say of small files.
 
-ghost use Rattle.merge_spec.specs.Examples.{BothAreAdded, SameIsAddedOnce, DifferentAreInConflict, BothFieldsAreSet, FieldIsAdded, FieldIsDropped, FieldIsInConflict, OtherBytesAreNoChange, RemovedIsInConflict, RemovedGoes, MovedAndSet, ChildHasLostItsParent};
+ghost use Rattle.merge_spec.specs.Examples.{BothAreAdded, SameIsAddedOnce, DifferentAreInConflict, BothFieldsAreSet, FieldIsAdded, FieldIsDropped, FieldIsInConflict, PartsAreTold, OtherBytesAreNoChange, RemovedIsInConflict, RemovedGoes, MovedAndSet, ChildHasLostItsParent};
 
 /// Entries that both sides add are there once each; two that differ and have one key are a conflict.
 pub fn added_entries_are_there_once()
@@ -15,6 +15,7 @@ pub fn fields_are_merged_one_by_one()
     ensures added { FieldIsAdded }
     ensures dropped { FieldIsDropped }
     ensures conflict { FieldIsInConflict }
+    ensures told { PartsAreTold }
     ensures other { OtherBytesAreNoChange }
 {}
 

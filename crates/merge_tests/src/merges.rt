@@ -1,6 +1,6 @@
 //! Merges of small files.
 
-use bib_merge::{Change, Conflict, Label, MergeFault, merge};
+use bib_merge::{Change, ChangedPart, Conflict, Label, MergeFault, merge};
 use std::alloc::Global;
 use std::test::Fail;
 
@@ -15,11 +15,76 @@ fn gives(alloc: Global, base: &[u8], ours: &[u8], theirs: &[u8], merged: &[u8]) 
     }
 }
 
-/// Whether the conflict is this one, over the entry with this key.
-fn is_over(conflict: Conflict<'_>, change: Change, key: &[u8]) -> bool {
-    match conflict.label {
-        Label::Entry(other) => conflict.change == change && other == key,
+/// What a conflict over an entry is to tell.
+#[derive(Clone, Copy)]
+enum Told {
+    Entry,
+    Type,
+    Field(&'static [u8]),
+    BothAdded,
+    RemovedByOurs,
+    RemovedByTheirs,
+}
+
+/// Whether the part is the one that is to be told.
+fn is_part(part: &ChangedPart, told: Told) -> bool {
+    match (part, told) {
+        (ChangedPart::Whole, Told::Entry) => true,
+        (ChangedPart::TypeName, Told::Type) => true,
+        (ChangedPart::Field(name), Told::Field(wanted)) => name.as_slice() == wanted,
         _ => false,
+    }
+}
+
+/// Whether the parts are those that are to be told, in this order.
+fn are_parts(parts: &[ChangedPart], told: &[Told]) -> bool {
+    if parts.len() != told.len() {
+        return false;
+    }
+    'parts: for k in 0..parts.len() {
+        if k >= told.len() || !is_part(&parts[k], told[k]) {
+            return false;
+        }
+    }
+    true
+}
+
+/// Whether the change is the one that is to be told: these parts, or else the first of these.
+fn is_change(change: &Change, told: &[Told]) -> bool {
+    match (change, told.first()) {
+        (Change::Changed(parts), _) => are_parts(parts.as_slice(), told),
+        (Change::BothAdded, Some(Told::BothAdded)) => true,
+        (Change::RemovedByOurs, Some(Told::RemovedByOurs)) => true,
+        (Change::RemovedByTheirs, Some(Told::RemovedByTheirs)) => true,
+        _ => false,
+    }
+}
+
+/// Whether the conflict is over the entry with this key.
+fn is_over(conflict: &Conflict<'_>, key: &[u8]) -> bool {
+    match conflict.label {
+        Label::Entry(other) => other == key,
+        _ => false,
+    }
+}
+
+/// Whether the merge of these files has one conflict, which is over the entry with this key and tells this, in this order.
+fn tells(
+    alloc: Global,
+    base: &[u8],
+    ours: &[u8],
+    theirs: &[u8],
+    key: &[u8],
+    told: &[Told],
+) -> bool {
+    match merge(alloc, base, ours, theirs) {
+        Ok(found) => {
+            let conflicts = found.conflicts.as_slice();
+            conflicts.len() == 1
+                && is_over(&conflicts[0], key)
+                && is_change(&conflicts[0].change, told)
+        }
+        Err(_) => false,
     }
 }
 
@@ -29,16 +94,15 @@ fn has_conflict(
     base: &[u8],
     ours: &[u8],
     theirs: &[u8],
-    change: Change,
+    told: Told,
     key: &[u8],
 ) -> bool {
-    match merge(alloc, base, ours, theirs) {
-        Ok(found) => {
-            let conflicts = found.conflicts.as_slice();
-            conflicts.len() == 1 && is_over(conflicts[0], change, key)
-        }
-        Err(_) => false,
-    }
+    tells(alloc, base, ours, theirs, key, &[told])
+}
+
+/// Whether the merge of these files is this one, and has no conflict.
+fn merges(alloc: Global, base: &[u8], ours: &[u8], theirs: &[u8], merged: &[u8]) -> bool {
+    gives(alloc, base, ours, theirs, merged) && agrees(alloc, base, ours, theirs)
 }
 
 /// Whether in the merge of these files, which has no conflict, the entry with this key has lost its parent, and no other has.
@@ -240,10 +304,10 @@ fn each_conflict_says_what_both_sides_did(rt: HostRuntime) -> Result<(), Fail> {
     let one = b"@misc{a, t = 1}\n";
     let two = b"@misc{a, t = 2}\n";
     let three = b"@misc{A, t = 3}\n";
-    assert!(rt; has_conflict(alloc, one, two, three, Change::Changed, b"a"));
-    assert!(rt; has_conflict(alloc, b"", two, three, Change::BothAdded, b"a"));
-    assert!(rt; has_conflict(alloc, one, b"", three, Change::RemovedByOurs, b"A"));
-    assert!(rt; has_conflict(alloc, one, two, b"", Change::RemovedByTheirs, b"a"));
+    assert!(rt; has_conflict(alloc, one, two, three, Told::Field(b"t"), b"a"));
+    assert!(rt; has_conflict(alloc, b"", two, three, Told::BothAdded, b"a"));
+    assert!(rt; has_conflict(alloc, one, b"", three, Told::RemovedByOurs, b"A"));
+    assert!(rt; has_conflict(alloc, one, two, b"", Told::RemovedByTheirs, b"a"));
     assert!(rt; agrees(alloc, one, two, one));
     assert!(rt; agrees(alloc, one, b"", b""));
     assert!(rt; agrees(alloc, b"", one, b"@misc{b}\n"));
@@ -276,5 +340,192 @@ fn a_child_of_a_removed_parent_is_told(rt: HostRuntime) -> Result<(), Fail> {
     assert!(rt; agrees(alloc, both, child, both));
     // a parent that the other side adds is found
     assert!(rt; agrees(alloc, b"", child, parent));
+    Ok(())
+}
+
+/// The entry of the common file with another value of `t`.
+const X: &[u8] = b"@misc{a,\n  t = {x},\n  u = 2\n}\n";
+
+#[test]
+fn fields_that_each_side_changed_are_merged(rt: HostRuntime) -> Result<(), Fail> {
+    let alloc = rt.alloc();
+    // one sets a field, and the other sets another, adds one, or drops one, which does not come back
+    assert!(rt;
+        merges(
+            alloc,
+            B,
+            X,
+            b"@misc{a,\n  t = 1,\n  u = {y}\n}\n",
+            b"@misc{a,\n  t = {x},\n  u = {y}\n}\n"
+        )
+    );
+    assert!(rt;
+        merges(
+            alloc,
+            B,
+            X,
+            b"@misc{a,\n  t = 1,\n  u = 2,\n  v = 3\n}\n",
+            b"@misc{a,\n  t = {x},\n  u = 2,\n  v = 3\n}\n"
+        )
+    );
+    assert!(rt;
+        merges(
+            alloc,
+            B,
+            X,
+            b"@misc{a,\n  t = 1\n}\n",
+            b"@misc{a,\n  t = {x}\n}\n"
+        )
+    );
+    assert!(rt;
+        merges(
+            alloc,
+            B,
+            b"@misc{a,\n  t = 1\n}\n",
+            X,
+            b"@misc{a,\n  t = {x}\n}\n"
+        )
+    );
+    Ok(())
+}
+
+#[test]
+fn what_says_the_same_is_no_change(rt: HostRuntime) -> Result<(), Fail> {
+    let alloc = rt.alloc();
+    let other = b"@misc{a,\n    t = {1},\n  u = 2\n}\n";
+    assert!(rt; merges(alloc, B, X, other, X));
+    assert!(rt; merges(alloc, B, other, X, b"@misc{a,\n    t = {x},\n  u = 2\n}\n"));
+    Ok(())
+}
+
+#[test]
+fn type_and_key_are_merged_too(rt: HostRuntime) -> Result<(), Fail> {
+    let alloc = rt.alloc();
+    let base = b"@misc{a, t = 1}\n";
+    let ours = b"@misc{a, t = 2}\n";
+    assert!(rt;
+        merges(
+            alloc,
+            base,
+            ours,
+            b"@book{a, t = 1}\n",
+            b"@book{a, t = 2}\n"
+        )
+    );
+    assert!(rt;
+        merges(
+            alloc,
+            base,
+            b"@book{a, t = 1}\n",
+            ours,
+            b"@book{a, t = 2}\n"
+        )
+    );
+    assert!(rt;
+        merges(
+            alloc,
+            base,
+            ours,
+            b"@MISC{A, t = 1}\n",
+            b"@misc{A, t = 2}\n"
+        )
+    );
+    assert!(rt;
+        merges(
+            alloc,
+            base,
+            b"@misc{A, t = 1}\n",
+            ours,
+            b"@misc{A, t = 2}\n"
+        )
+    );
+    Ok(())
+}
+
+#[test]
+fn rows_go_where_they_stand_on_their_side(rt: HostRuntime) -> Result<(), Fail> {
+    let alloc = rt.alloc();
+    let base = b"@misc{a\n, t = 1\n, u = 2 ,\n}\n";
+    let ours = b"@misc{a\n, u = 3\n, t = 1 ,\n}\n";
+    // behind the key, and behind the value of the row before it
+    assert!(rt;
+        merges(
+            alloc,
+            base,
+            ours,
+            b"@misc{a, p = 0, q = 0\n, t = 1, r = 0, s = 0\n, u = 2 ,\n}\n",
+            b"@misc{a, p = 0, q = 0\n, u = 3\n, t = 1, r = 0, s = 0 ,\n}\n"
+        )
+    );
+    // the white space after rows that go stays
+    assert!(rt;
+        merges(
+            alloc,
+            base,
+            ours,
+            b"@misc{a\n, u = 2 ,\n}\n",
+            b"@misc{a\n, u = 3\n ,\n}\n"
+        )
+    );
+    assert!(rt;
+        merges(
+            alloc,
+            b"@misc{a, t = 1 , u = 2\t}",
+            b"@book{a, t = 1 , u = 2\t}",
+            b"@misc{a}",
+            b"@book{a \t}"
+        )
+    );
+    Ok(())
+}
+
+#[test]
+fn each_field_in_conflict_is_told(rt: HostRuntime) -> Result<(), Fail> {
+    let alloc = rt.alloc();
+    let y = b"@misc{a,\n  t = {y},\n  u = 2\n}\n";
+    assert!(rt; tells(alloc, B, X, y, b"a", &[Told::Field(b"t")]));
+    // ours in our order, then those that we dropped in theirs; the type comes first
+    assert!(rt;
+        tells(
+            alloc,
+            b"@misc{a, t = 1, u = 1, v = 1, w = 1}\n",
+            b"@book{a, W = 2, u = 2}\n",
+            b"@online{a, v = 3, t = 3, u = 3, w = 3}\n",
+            b"a",
+            &[
+                Told::Type,
+                Told::Field(b"w"),
+                Told::Field(b"u"),
+                Told::Field(b"v"),
+                Told::Field(b"t")
+            ]
+        )
+    );
+    // a field that is there twice
+    assert!(rt;
+        tells(
+            alloc,
+            B,
+            X,
+            b"@misc{a, t = 1, T = 1}\n",
+            b"a",
+            &[Told::Entry]
+        )
+    );
+    Ok(())
+}
+
+#[test]
+fn values_of_macros_say_what_they_stand_for(rt: HostRuntime) -> Result<(), Fail> {
+    let alloc = rt.alloc();
+    assert!(rt;
+        merges(
+            alloc,
+            b"@string{m = {x}}\n@misc{a, t = m, u = 1}\n",
+            b"@string{m = {x}}\n@misc{a, t = m, u = 2}\n",
+            b"@string{m = {x}}\n@misc{a, t = {x}, u = 1}\n",
+            b"@string{m = {x}}\n@misc{a, t = m, u = 2}\n"
+        )
+    );
     Ok(())
 }

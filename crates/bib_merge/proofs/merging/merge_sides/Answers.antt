@@ -3,7 +3,7 @@ use Rattle.std.proofs.lemmas.Result.{err_from_is_err_and}
 use Rattle.bib_spec.specs.Reading.{Reads}
 use Rattle.bib_spec.specs.Texts.{IsOpenable}
 use Rattle.bib_merge.specs.Merges.{IsMergedFault}
-use Rattle.merge_spec.specs.Units.{spaced_of}
+use Rattle.merge_spec.specs.Units.{units_of}
 use Rattle.bib_places.specs.PlacesSeen.{IsSide, place_seen}
 use Rattle.bib_merge.proofs.merging.merge_sides.Goals as goal
 
@@ -13,11 +13,11 @@ returns-clause-merged c rb ro rt sb so st =
     let side_o = subst (IsSide ro c.args.o.now) (sym c.as_slice-our_units.ensures.value) so in
     let side_t = subst (IsSide rt c.args.t.now) (sym c.as_slice-their_units.ensures.value) st in
     record {
-      places = map place_seen c.as_slice-places.result.now;
+      places = map (place_seen (units_of ro) (units_of rt)) c.as_slice-places.result.now;
       space = c.chosen-space.result.now;
       merge = c.in_ok-is_merge.ensures c.if-not-branch.false rb ro rt side_b side_o side_t;
-      bytes = sym (c.in_ok-text.ensures ro rt (spaced_of ro) (spaced_of rt) side_o.are side_t.are);
-      told = sym (c.in_ok-conflicts.ensures rb ro rt (spaced_of rb) (spaced_of ro) (spaced_of rt) side_b.are side_o.are side_t.are);
+      bytes = sym (c.in_ok-text.ensures ro rt side_o side_t);
+      told = sym (c.in_ok-conflicts.ensures rb ro rt side_b side_o side_t);
     }
 
 pub returns-clause-lost : goal.returns-clause-lost
@@ -27,14 +27,9 @@ returns-clause-lost c ro reads_o rt reads_t rm reads_m =
 pub returns-clause-opens : goal.returns-clause-opens
 returns-clause-opens c = subst IsOpenable c.as_slice.ensures c.in_ok-db.ensures.opens
 
-pub returns-in_err-found-clause-fault : goal.returns-in_err-found-clause-fault
-returns-in_err-found-clause-fault c =
-    let p = err_from_is_err_and c.from_residual.result c.from_residual.ensures.1 in
-    rw (p.1, p.2) IsMergedFault.no_memory
-
 pub returns-in_err-list-clause-fault : goal.returns-in_err-list-clause-fault
 returns-in_err-list-clause-fault c =
-    let p = err_from_is_err_and c.from_residual-in_err-list.result c.from_residual-in_err-list.ensures.1 in
+    let p = err_from_is_err_and c.from_residual.result c.from_residual.ensures.1 in
     rw (p.1, p.2) IsMergedFault.no_memory
 
 pub returns-in_err-is_merge-clause-fault : goal.returns-in_err-is_merge-clause-fault
@@ -48,11 +43,6 @@ returns-then-not-branch-clause-fault c = IsMergedFault.would_merge
 pub returns-in_err-text-clause-fault : goal.returns-in_err-text-clause-fault
 returns-in_err-text-clause-fault c =
     let p = err_from_is_err_and c.from_residual-in_err-text.result c.from_residual-in_err-text.ensures.1 in
-    rw (p.1, p.2) IsMergedFault.no_memory
-
-pub returns-in_err-bodies-clause-fault : goal.returns-in_err-bodies-clause-fault
-returns-in_err-bodies-clause-fault c =
-    let p = err_from_is_err_and c.from_residual-in_err-bodies.result c.from_residual-in_err-bodies.ensures.1 in
     rw (p.1, p.2) IsMergedFault.no_memory
 
 pub returns-in_err-db-clause-fault : goal.returns-in_err-db-clause-fault

@@ -1,5 +1,11 @@
+use Rattle.std.proofs.lemmas.Result.{err_from_is_err_and}
 use Rattle.bib_merge.specs.Merges.{IsMergedFault}
 use Rattle.bib_merge.proofs.merging.opening.Goals as goal
 
-pub returns-then-not-has_bodies-clause-fault : goal.returns-then-not-has_bodies-clause-fault
-returns-then-not-has_bodies-clause-fault c = IsMergedFault.would_merge
+pub returns-then-not-branch-clause-fault : goal.returns-then-not-branch-clause-fault
+returns-then-not-branch-clause-fault c = IsMergedFault.would_merge
+
+pub returns-in_err-has_items-in-Ok-clause-fault : goal.returns-in_err-has_items-in-Ok-clause-fault
+returns-in_err-has_items-in-Ok-clause-fault c =
+    let p = err_from_is_err_and c.from_residual.result c.from_residual.ensures.1 in
+    rw (p.1, p.2) IsMergedFault.no_memory

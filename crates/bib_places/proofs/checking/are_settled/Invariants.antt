@@ -8,4 +8,4 @@ use Rattle.bib_places.proofs.checking.are_settled.Given as goal
 
 abbrev pub invariant-places : goal.invariant-places
 invariant-places g l = (rb ro rt : Reading) → IsSide rb l.base.db.now l.base.units.now → IsSide ro l.ours.db.now l.ours.units.now → IsSide rt l.theirs.db.now l.theirs.units.now
-    → list_all (λ p. is_settled (units_of rb) (units_of ro) (units_of rt) (place_seen p)) (take l.k l.places) ≡ true
+    → list_all (λ p. is_settled (units_of rb) (units_of ro) (units_of rt) (place_seen (units_of ro) (units_of rt) p)) (take l.k l.places) ≡ true

@@ -11,4 +11,4 @@ use Rattle.bib_places.proofs.codes.codes_left.Given as goal
 
 abbrev pub invariant-places : goal.invariant-places
 invariant-places l = (ro rt : Reading) (uo ut : List Spaced) → AreUnits ro l.ours uo → AreUnits rt l.theirs ut
-    → IsGatheredTo (λ p. option_to_list (option_map code_of (label_left (unit_at (map (λ s. s.unit) uo) p.ours) (unit_at (map (λ s. s.unit) ut) p.theirs) (outcome_seen p.outcome)))) [] l.places l.k l.codes.items
+    → IsGatheredTo (λ p. option_to_list (option_map code_of (label_left (unit_at (map (λ s. s.unit) uo) p.ours) (unit_at (map (λ s. s.unit) ut) p.theirs) (outcome_seen (unit_at (map (λ s. s.unit) uo) p.ours) (unit_at (map (λ s. s.unit) ut) p.theirs) p.outcome)))) [] l.places l.k l.codes.items

@@ -14,5 +14,5 @@ returns g c may rb ro rt sb so st =
     let see_t = c.unit_at-3.ensures rt (spaced_of rt) st.are in
     and_from _ _
     (and_from _ _ (sym (c.have_one_label.ensures rb ro rt b o t see_b see_o see_t) ∙ c.if-not-have_one_label.false)
-    (sym (c.in_ok-may.ensures rb sb.reads ro so.reads rt st.reads b o t see_b see_o see_t) ∙ may))
+    (c.in_ok-may.ensures may rb sb.reads ro so.reads rt st.reads b o t see_b see_o see_t))
     (sym c.is_white.ensures ∙ c.if-not-is_white.false)

@@ -1,7 +1,8 @@
-use Rattle.bib_places.specs.ConflictsSeen.{conflict_seen}
+use Rattle.bib_places.specs.ConflictsSeen.{change_seen}
 use Rattle.bib_places.proofs.Lists.{IsGatheredTo}
-use Rattle.merge_run.specs.Lines.{conflict_line}
+use Rattle.bib_units.specs.Labels.{label_seen}
+use Rattle.merge_run.specs.Lines.{change_lines}
 use Rattle.merge_run.proofs.lines.add_conflicts.Given as goal
 
 abbrev pub invariant-conflicts : goal.invariant-conflicts
-invariant-conflicts l = IsGatheredTo (λ c. conflict_line (conflict_seen c)) l.fn.out.items l.conflicts l.k l.out.items
+invariant-conflicts l = IsGatheredTo (λ c. change_lines (label_seen c.label) (change_seen c.change)) l.fn.out.items l.conflicts l.k l.out.items

@@ -22,3 +22,7 @@ returns-clause-conflict c = record { conflict = record { merge = refl; bytes = r
 pub returns-clause-other : goal.returns-clause-other
 unfolding months field_text is_space
 returns-clause-other c = record { merge = refl; bytes = refl }
+
+pub returns-clause-told : goal.returns-clause-told
+unfolding months field_text is_space
+returns-clause-told c = record { field = refl; each = refl; dropped = refl; whole = refl }

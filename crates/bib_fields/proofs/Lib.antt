@@ -1,0 +1,10 @@
+pub mod Collected
+pub mod RowFields
+pub mod ThreeForms
+pub mod Openings
+pub mod Writings
+pub mod VersionsRead
+pub mod MixChecked
+pub mod PartsTold
+pub mod Sourced
+pub mod ItemsRead
