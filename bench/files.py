@@ -186,6 +186,11 @@ def inlinings(count):
     return b"".join(b"inline\tm%d\n" % n for n in range(count))
 
 
+def undefinings(count):
+    """A script of so many edits: each takes out a definition of a file by rule that nothing uses."""
+    return b"".join(b"undefine\tm%d\n" % n for n in range(count))
+
+
 def inlinings_from_the_end(count):
     """The same from the last macro to the first."""
     return b"".join(reversed(inlinings(count).splitlines(True)))
@@ -205,6 +210,11 @@ def renames_of_one_key(count):
 def renames(count):
     """A script of so many edits: each gives an article another key."""
     return b"".join(b"rename-key\tkey%d\tother%d\n" % (n, n) for n in articles(count))
+
+
+def field_renames(count):
+    """A script of so many edits: each gives a field of an article another name."""
+    return b"".join(b"rename-field\tnote\tannote\tkey%d\n" % n for n in articles(count))
 
 
 def sets(count):
@@ -461,6 +471,7 @@ CONTENTS = {
     "library 8": lambda: library(8000000),
     "library 16": lambda: library(16000000),
     "definitions 3": lambda: definitions(3000),
+    "definitions 10": lambda: definitions(10000),
     "abbreviated 4": lambda: abbreviated(5000),
     "abbreviated 8": lambda: abbreviated(10000),
     "use 100": lambda: one_macro(100000),

@@ -5,7 +5,7 @@
 
 _bibkeep() {
     local commands='cat check lint show entry cite labels json names newkeys edit undo redo log forget ris extract import insert merge diff explain help'
-    local verbs='set drop add remove move set-type rename-key rename-macro inline introduce regenerate'
+    local verbs='set drop add remove move set-type rename-key rename-field rename-macro inline introduce undefine regenerate'
     local IFS=$' \t\n' words=() current='' begun='' quote='' tilde='' is_target='' own=() has_ended='' options='' i
 
     COMPREPLY=()
@@ -72,7 +72,7 @@ _bibkeep() {
         edit:3)
             case $verb in
                 set | drop | remove | move | rename-key) _bibkeep_offer < <(_bibkeep_keys "$file") ;;
-                inline | rename-macro) _bibkeep_offer < <(_bibkeep_macros "$file") ;;
+                inline | rename-macro | undefine) _bibkeep_offer < <(_bibkeep_macros "$file") ;;
                 add) _bibkeep_offer < <(_bibkeep_positions "$file") ;;
             esac
             ;;
@@ -80,6 +80,11 @@ _bibkeep() {
             case $verb in
                 set | drop) _bibkeep_offer < <(_bibkeep_fields "$file" "${own[3]}") ;;
                 move) _bibkeep_offer < <(_bibkeep_positions "$file") ;;
+            esac
+            ;;
+        edit:5)
+            case $verb in
+                rename-field) _bibkeep_offer < <(_bibkeep_keys "$file") ;;
             esac
             ;;
     esac

@@ -208,6 +208,13 @@ class Library(Mapping[str, Entry]):
         """Gives an entry another key, and changes the crossrefs to it."""
         self.edit("rename-key", old, new)
 
+    def rename_field(self, old: Word, new: Word, key: Optional[Word] = None) -> None:
+        """Gives a field another name, in every entry or in the entry that has this key."""
+        if key is None:
+            self.edit("rename-field", old, new)
+        else:
+            self.edit("rename-field", old, new, key)
+
     def rename_macro(self, old: Word, new: Word) -> None:
         """Gives a macro another name, in its definition and in its uses."""
         self.edit("rename-macro", old, new)
@@ -219,6 +226,10 @@ class Library(Mapping[str, Entry]):
     def introduce(self, macro: Word, text: Word) -> None:
         """Defines a macro as a text, and replaces the text by it."""
         self.edit("introduce", macro, text)
+
+    def undefine(self, macro: Word) -> None:
+        """Removes the definition of a macro that nothing after it uses."""
+        self.edit("undefine", macro)
 
     def regenerate(self, depth: int = 1) -> None:
         """Gives every entry the key that is made of its names, year and title, with what it inherits at this depth (1 to 8)."""

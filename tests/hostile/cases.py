@@ -347,6 +347,9 @@ EDITING = [
         [(14, b"@string{m=x}", b""), (50, b"m", b"{1}")],
         b"@string{x={1}}@string{x={2}}@misc{k,t={1}}",
     ),
+    edited(b"@misc{a,T=1}@misc{b,t=2}", b"rename-field\tt\tu\n", [(8, b"T", b"u"), (20, b"t", b"u")], b"@misc{a,u=1}@misc{b,u=2}"),
+    edited(b"@misc{a,t=1}@misc{b,t=2}", b"rename-field\tt\tu\tB\n", [(20, b"t", b"u")], b"@misc{a,t=1}@misc{b,u=2}"),
+    edited(b"@string{m = 1} @misc{a}", b"undefine\tM\n", [(0, b"@string{m = 1}", b"")], b" @misc{a}"),
     edited(
         b'@misc{a, t = {x} # "x"}',
         b"introduce\tm\tx\n",
@@ -589,6 +592,8 @@ MERGING = [
     Case(("merge", FILE, FILE, OTHER), file=b"@misc{a}\n", other=b"@misc{b}\n", reads=(FILE, OTHER), new_file=b"@misc{b}\n"),
     Case(("merge", FILE, FILE, OTHER, "--print"), file=b"@misc{a}\n", other=b"@misc{b}\n", reads=(FILE, OTHER), output=b"@misc{b}\n"),
     Case(("merge", OTHER, FILE, OTHER), file=b"x@foo\n", other=b"@misc{b}\n", reads=(OTHER, FILE), new_file=b"x@foo\n"),
+    # we gave the entry another key, and the others follow
+    Case(("merge", OTHER, FILE, OTHER), file=b"@misc{k, t = 1}\n", other=b"@misc{a, t = 1}\n", reads=(OTHER, FILE), new_file=b"@misc{k, t = 1}\n"),
     Case(
         ("merge", FILE, FILE, OTHER), file=b"@misc{a}\n", other=b"@misc{", reads=(FILE, OTHER), status=1,
         message=b"bibkeep: 1 Unended at 6 in strings.bib\n",

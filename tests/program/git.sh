@@ -65,6 +65,18 @@ expect 'git does not show the conflict' grep -qF 'conflict field a t' seen/git_o
 expect 'git does not report the conflict' grep -qF 'CONFLICT' seen/git_out
 when check repository/refs.bib; ends_with 0; mentions 'entries 3'
 
+# One gives a parent another key, and the other adds a child; one regenerates all keys, and the other sets a field.
+scene '@book{p, t = 1}\n@misc{b, t = 1}\n' '@book{k, t = 1}\n@misc{b, t = 1}\n' '@book{p, t = 1}\n@inbook{c, crossref = {p}}\n@misc{b, t = 1}\n' merge -m merged theirs
+ends_with 0; refs_are '@book{k, t = 1}\n@inbook{c, crossref = {k}}\n@misc{b, t = 1}\n'
+scene '@book{p, t = 1}\n@inbook{c, t = 2, crossref = {p}}\n' '@book{k, t = 1}\n@inbook{l, t = 2, crossref = {k}}\n' \
+    '@book{p, t = {A}}\n@inbook{c, t = 2, crossref = {p}}\n' rebase theirs
+ends_with 0; refs_are '@book{k, t = {A}}\n@inbook{l, t = 2, crossref = {k}}\n'
+
+# Both give one entry another key: git reports the conflict.
+scene "$two" '@misc{o, t = 1}\n@misc{b, t = 2}\n' '@misc{p, t = 1}\n@misc{b, t = 1}\n' merge -m merged theirs
+ends_with 1; refs_are '@misc{o, t = 1}\n@misc{b, t = 2}\n'
+expect 'git does not show the conflict' grep -qF 'conflict key a o p' seen/git_out seen/git_errors
+
 # A file that cannot be opened is a conflict too, and ours stays.
 scene "$two" "$two@misc{o}\\n" '@misc{' merge -m merged theirs
 ends_with 1; refs_are "$two@misc{o}\\n"

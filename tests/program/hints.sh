@@ -1,7 +1,7 @@
 # Hints: which, where, and what now.
 # shellcheck shell=sh
 
-given hinted.bib '@string{cup = "CUP"}\n@string{twice = "a"}\n@string{twice = "b"}\n@book{knuth, author = {Donald E. Knuth},\n  title = {One},\n  title = {Two}}\n@inproceedings{ld86, title = {One}, crossref = {podc}}\n@inproceedings{ld87, title = {Two}, crossref = "PODC"}\n@proceedings{podc, title = {Proc}, year = 1986}\n@misc{dup, t = 1}\n@misc{DUP, t = 2}\n@misc{orphan, crossref = {nobody}}\n'
+given hinted.bib '@string{cup = "CUP"}\n@string{twice = "a"}\n@string{twice = "b"}\n@book{knuth, author = {Donald E. Knuth},\n  title = {One},\n  title = {Two}}\n@inproceedings{ld86, title = {One}, crossref = {podc}}\n@inproceedings{ld87, title = {Two}, crossref = "PODC"}\n@proceedings{podc, title = {Proc}, year = 1986, publisher = Cup}\n@misc{dup, t = 1}\n@misc{DUP, t = 2}\n@misc{orphan, crossref = {nobody}}\n'
 
 # One edit with hints, which stores nothing: it says the message and these lines.
 when_edited() {
@@ -55,9 +55,18 @@ when_edited rename-macro cup jan; hinted '38 NameInUse' '  jan is the name of a 
 when_edited remove podc; hinted '39 Referred' '  the crossref of ld86 in line 7 names podc
   the crossref of ld87 in line 8 names podc
   first type, for each of them: bibkeep edit hinted.bib drop ld87 crossref'
+when_edited undefine cup; hinted '39 Referred' "  a value in line 9 uses the macro cup
+  bibkeep edit hinted.bib inline cup writes the macro's text for its uses, and removes the definition"
+when_edited rename-field Crossref x; hinted '32 BadName' '  a crossref names a parent: no field loses this name, and none gets it'
+when_edited rename-field title 1x; hinted '32 BadName' '  1x can be no name of a field'
+when_edited rename-field x y; hinted '35 NotFound' '  no entry of hinted.bib has a field x'
+when_edited rename-field title x; hinted '36 Ambiguous' '  the entry knuth in line 4 would have the field x twice'
+when_edited rename-field x y ld86; hinted '35 NotFound' '  the entry ld86 has no field x of its own
+  bibkeep show hinted.bib ld86 prints its fields; change an inherited one in the parent'
+when_edited rename-field title year podc; hinted '36 Ambiguous' '  the entry podc in line 9 would have the field year twice'
 when_edited set-type knuth string; hinted '32 BadName' '  string is no type of an entry, such as book or article'
 when_edited retype knuth book; hinted '71 BadScript' '  retype is no edit
-  the edits: set drop add remove move set-type rename-key rename-macro inline introduce regenerate; in a script also group end'
+  the edits: set drop add remove move set-type rename-key rename-field rename-macro inline introduce undefine regenerate; in a script also group end'
 when_edited drop knuth; hinted '71 BadScript' '  its words are: drop KEY FIELD
   bibkeep help edit says more'
 when explain --hints foo; ends_with 1; hinted '13 NoSuchFault' '  foo is neither the number nor the name of a fault'

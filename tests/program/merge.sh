@@ -109,6 +109,64 @@ conflicts 'crossref c' "$one" "$one@misc{c, crossref = {A}}\\n" '@misc{k}\n' '@m
 merges "$one" '' "$one@misc{c, crossref = {z}}\\n" '@misc{c, crossref = {z}}\n'
 merges '' '@misc{c, crossref = {a}}\n' '@misc{a}\n' '@misc{c, crossref = {a}}\n@misc{a}\n'
 
+# A use of a macro has lost its meaning if it finds another definition than on its side, or none: there is no marker.
+x='@string{x = 1}\n'
+conflicts 'macro x in k' "$x@misc{K, t = 1}\\n" "$x@string{X = 2}\\n@misc{K, t = 1}\\n" "$x@misc{K, t = x}\\n" "$x@string{X = 2}\\n@misc{K, t = x}\\n"
+conflicts 'macro x in k' "$x@misc{k, t = 1}\\n" '@misc{k, t = 1}\n' "$x@misc{k, t = X}\\n" '@misc{k, t = X}\n'
+# It has lost nothing if it finds none on its own side, as a month that the other side defines.
+merges '@misc{k, t = 1}\n' '@string{jan = 1}\n@misc{k, t = 1}\n' '@misc{k, t = jan}\n' '@string{jan = 1}\n@misc{k, t = jan}\n'
+
+# ---- names that one side gave
+
+# A key is followed by the crossrefs that the other side added, and a macro by its uses; in whatever order the sides come.
+merges "$one" '@misc{k,\n  t = 1,\n  u = 2\n}\n' "$one@misc{c, crossref = {A}}\\n" '@misc{k,\n  t = 1,\n  u = 2\n}\n@misc{c, crossref = {k}}\n'
+merges "$one" "$one@misc{c, crossref = {A}}\\n" '@misc{k,\n  t = 1,\n  u = 2\n}\n' '@misc{k,\n  t = 1,\n  u = 2\n}\n@misc{c, crossref = {k}}\n'
+merges '@string{m={A}}\n@misc{a,t=m}\n' '@string{n={A}}\n@misc{a,t=n}\n' '@string{m={A}}\n@misc{a,t=m}\n@misc{b,t=m}\n' \
+    '@string{n={A}}\n@misc{a,t=n}\n@misc{b,t=n}\n'
+merges '@string{m={A}}\n@misc{a,t=m}\n' '@string{m={A}}\n@misc{a,t=m}\n@misc{b,t=m}\n' '@string{n={A}}\n@misc{a,t=n}\n' \
+    '@string{n={A}}\n@misc{a,t=n}\n@misc{b,t=n}\n'
+
+# A field is set here; there the entry got another key, as did all entries.
+merges '@misc{a, t = 1}\n@misc{b, t = 2}\n@misc{c, t = 3, crossref = {a}}\n' '@misc{x, t = 1}\n@misc{y, t = 2}\n@misc{z, t = 3, crossref = {x}}\n' \
+    '@misc{a, t = {A}}\n@misc{b, t = 2}\n@misc{c, t = 4, crossref = {a}}\n' '@misc{x, t = {A}}\n@misc{y, t = 2}\n@misc{z, t = 4, crossref = {x}}\n'
+three "$(awk 'BEGIN { while (n++ < 300) printf "@misc{a%d, author = {Lee, A}, title = {%d}, year = 2001}\\n", n, n }')" '' ''
+cp base.bib ours.bib
+cp base.bib theirs.bib
+when edit --no-journal ours.bib regenerate; ends_with 0
+when edit --no-journal theirs.bib set a77 note '{seen}'; ends_with 0
+cp ours.bib theirs_keys.bib
+when edit --no-journal theirs_keys.bib set "$(sed -n '77s/@misc{\(.*\), author.*/\1/p' ours.bib)" note '{seen}'; ends_with 0
+when merge base.bib ours.bib theirs.bib; ends_with 0; writes_nothing; says_nothing
+expect 'a field or a key is lost' cmp -s ours.bib theirs_keys.bib
+
+# Both gave one entry another key: it gets ours. The line comes before all others. The same key, in whatever case, is no conflict.
+conflicts 'key a o p' '@misc{A, t = 1}\n' '@misc{O, t = 1}\n' '@misc{p, t = 1}\n@misc{c, crossref = {p}}\n' '@misc{O, t = 1}\n@misc{c, crossref = {O}}\n'
+merges '@misc{a, t = 1}\n' '@misc{o, t = 1}\n' '@misc{O, t = 1}\n' '@misc{o, t = 1}\n'
+three '@misc{z}\n@misc{a, t = 1}\n@misc{b, t = 2}\n' '@book{z}\n@misc{o, t = 1}\n@misc{q, t = 2}\n' '@online{z}\n@misc{p, t = 1}\n@misc{r, t = 2}\n'
+when merge base.bib ours.bib theirs.bib; ends_with 1; prints 'conflict key a o p\nconflict key b q r\nconflict type z\n'; says_nothing
+
+# Both gave one macro another name: it gets ours, and no line.
+merges '@string{m={A}}\n@misc{a,t=m}\n' '@string{n={A}}\n@misc{a,t=n}\n' '@string{o={A}}\n@misc{a,t=o}\n@misc{b,t=o}\n' \
+    '@string{n={A}}\n@misc{a,t=n}\n@misc{b,t=n}\n'
+
+# What one side gave a name, and the other took away, stays, as a conflict.
+conflicts 'removed by theirs entry k' '@misc{a, t = 1}\n' '@misc{k, t = 1}\n' '' '<<<<<<< ours\n@misc{k, t = 1}\n=======\n>>>>>>> theirs\n'
+conflicts 'removed by ours entry k' '@misc{a, t = 1}\n' '' '@misc{K, t = 1}\n' '<<<<<<< ours\n=======\n@misc{K, t = 1}\n>>>>>>> theirs\n'
+conflicts 'removed by theirs macro n' '@string{m={A}}\n@misc{a,t=m}\n' '@string{n={A}}\n@misc{a,t=n}\n' '@misc{a,t={A}}\n' \
+    '<<<<<<< ours\n@string{n={A}}\n=======\n>>>>>>> theirs\n@misc{a,t={A}}\n'
+
+# A name is followed in no file if the other side gave it to another entry; nor is one that two entries may have got, or one of an entry
+# that says nothing.
+conflicts 'both added entry k' '@misc{a, t = 1}\n' '@misc{k, t = 1}\n' '@misc{k, t = 2}\n' \
+    '<<<<<<< ours\n@misc{k, t = 1}\n=======\n@misc{k, t = 2}\n>>>>>>> theirs\n'
+conflicts 'both added entry k' '@misc{a, t = 1}\n' '@misc{k, t = 1}\n' '@misc{a, t = 1}\n@misc{k, t = 2}\n' \
+    '<<<<<<< ours\n@misc{k, t = 1}\n=======\n@misc{k, t = 2}\n>>>>>>> theirs\n'
+conflicts 'crossref c' '@misc{a, t = 1}\n@misc{b, t = 1}\n' '@misc{k, t = 1}\n@misc{l, t = 1}\n' \
+    '@misc{a, t = 1}\n@misc{b, t = 1}\n@misc{c, crossref = {a}}\n' '@misc{k, t = 1}\n@misc{l, t = 1}\n@misc{c, crossref = {a}}\n'
+conflicts 'crossref c' '@misc{a}\n' '@misc{k}\n' '@misc{a}\n@misc{c, crossref = {a}}\n' '@misc{k}\n@misc{c, crossref = {a}}\n'
+
+# ---- several lines
+
 # Each conflict has a line, in the order of the file.
 three "$one@misc{b, t = 1}\\n" "$(a '{x}' 2)" "$(a '{y}' 2)@misc{B, t = 2}\\n"
 when merge base.bib ours.bib theirs.bib; ends_with 1; prints 'conflict field a t\nconflict removed by ours entry b\n'; says_nothing

@@ -1,4 +1,4 @@
-# `bibkeep edit` with lines that rename keys and macros, inline and introduce macros, and make keys.
+# `bibkeep edit` with lines that rename keys, fields and macros, inline, introduce and undefine macros, and make keys.
 # shellcheck shell=sh
 
 two='@misc{a}\n@misc{b}\n'
@@ -41,6 +41,13 @@ makes '@string{m = "a" # {"}}@misc{k, t = m # 1}' 'inline\tm' '@misc{k, t = {a"}
 makes '@string{x={1}}@string{m=x}@string{x={2}}@misc{k,t=m}' 'inline\tm' '@string{x={1}}@string{x={2}}@misc{k,t={1}}'
 makes '@misc{a, t = {x} # "x"}' 'introduce\tm\tx' '@string{m = {x}}\n@misc{a, t = m # m}'
 makes '@misc{a}\n@misc{b, t = "x"}\n' 'introduce\tm\tx' '@misc{a}\n@string{m = {x}}\n@misc{b, t = m}\n'
+makes '@misc{a, T = 1, u = {t}}@misc{b,t=t}@string{t = 2}' 'rename-field\tt\tTitle' '@misc{a, Title = 1, u = {t}}@misc{b,Title=t}@string{t = 2}'
+makes '@misc{a, t = 1}@misc{b,t=2}' 'rename-field\tt\ttitle\tB' '@misc{a, t = 1}@misc{b,title=2}'
+makes '@misc{a, u = 1, u = 2}@misc{b,t=2}' 'rename-field\tt\tu' '@misc{a, u = 1, u = 2}@misc{b,u=2}'
+makes '@misc{a, t = 1}' 'rename-field\tt\tT' '@misc{a, T = 1}'
+makes '@misc{a, t = m}\n@string{M = 1}\n@misc{b, t = {m}}\n' 'undefine\tm' '@misc{a, t = m}\n\n@misc{b, t = {m}}\n'
+makes 'x@string{m = m # {y}}z' 'undefine\tm' 'xz'
+makes '@string{jan = {J}}@string{n = {m}}@misc{a, t = n}' 'undefine\tJAN' '@string{n = {m}}@misc{a, t = n}'
 makes "$crossed" 'regenerate' "$made"
 makes "$crossed" 'regenerate\nregenerate' "$made"
 makes '@misc{,year=1999}@misc{x,year=1999}@misc{c,year=2000,crossref={anon99A}}' 'regenerate' '@misc{anon99,year=1999}@misc{anon99b,year=1999}@misc{anon00,year=2000,crossref={anon99A}}'
@@ -75,6 +82,23 @@ refuses 36 Ambiguous '@string{p={A}}@misc{a,t=p}@string{p={B}}@misc{b,t=p}' 'ren
 refuses 38 NameInUse "$month" 'rename-macro\tjan\tMay'
 refuses 36 Ambiguous '@string{m = 1}@string{M = 2}' 'inline\tm'
 refuses 40 WouldMerge 'a@foo \n@string{m = 1}{b' 'inline\tm'
+refuses 32 BadName "$two" 'rename-field\tcrossref\tx'
+refuses 32 BadName "$two" 'rename-field\tx\tCROSSREF\ta'
+refuses 32 BadName "$two" 'rename-field\tx\t1'
+refuses 35 NotFound "$two" 'rename-field\tx\ty'
+refuses 35 NotFound '@misc{a}@misc{b,x=1}' 'rename-field\tx\ty\ta'
+refuses 35 NotFound '@misc{a,x=1}' 'rename-field\tx\ty\tb'
+refuses 36 Ambiguous '@misc{a,x=1,y=2}' 'rename-field\tx\ty'
+refuses 36 Ambiguous '@misc{a,x=1,X=2}' 'rename-field\tx\ty\ta'
+refuses 36 Ambiguous '@misc{a,x=1}@misc{A}' 'rename-field\tx\ty\ta'
+refuses 32 BadName "$uses" 'undefine\t1'
+refuses 35 NotFound "$month" 'undefine\tfeb'
+refuses 36 Ambiguous '@string{m = 1}@string{M = 2}' 'undefine\tm'
+refuses 39 Referred "$uses" 'undefine\tm'
+refuses 39 Referred "$month" 'undefine\tjan'
+refuses 39 Referred '@string{m = 1}@string{n = {x} # M}' 'undefine\tm'
+refuses 39 Referred '@string{m = 1}@preamble{m}' 'undefine\tm'
+refuses 40 WouldMerge 'a@foo \n@string{m = 1}{b' 'undefine\tm'
 refuses 33 BadValue '@misc{a, t = {x}}' 'introduce\tm\t{x'
 refuses 35 NotFound '@misc{a, t = m}@string{n = 1}@misc{b, t = n}' 'introduce\tm\t1'
 refuses 38 NameInUse '@misc{a, t = {x} # m}' 'introduce\tm\tx'
@@ -85,6 +109,10 @@ refuses 71 BadScript "$two" 'rename-macro\ta'
 refuses 71 BadScript "$two" 'inline'
 refuses 71 BadScript "$two" 'inline\ta\tb'
 refuses 71 BadScript "$two" 'introduce\ta'
+refuses 71 BadScript "$two" 'rename-field\tx'
+refuses 71 BadScript "$two" 'rename-field\tx\ty\ta\tb'
+refuses 71 BadScript "$two" 'undefine'
+refuses 71 BadScript "$two" 'undefine\ta\tb'
 refuses 71 BadScript "$two" 'regenerate\t'
 refuses 71 BadScript "$two" 'regenerate\t0'
 refuses 71 BadScript "$two" 'regenerate\t9'
@@ -107,6 +135,7 @@ keeps "$crossed" 'regenerate' Lam86 Knu84
 keeps "$crossed" 'regenerate' Knu84 Lam86
 keeps "$month" 'rename-macro\tjan\tj' a a
 keeps '@string{x={1}}@string{m=x}@string{x={2}}@misc{k,t=m # x}' 'inline\tm' k k
+keeps '@misc{a, t = m # mar}@string{m = {x}}@string{MAR = {y}}' 'undefine\tm' a a
 keeps '@misc{a, t = {x } # "x" # mar}' 'introduce\tm\tx' a a
 
 # Making keys is a change like any other, also where there are none: as many are kept as can be undone.

@@ -65,8 +65,11 @@ class Edits(unittest.TestCase):
             ("move", ("a", 1), b"@misc{a}\n@misc{b}\n", b"\n@misc{b}\n@misc{a}\n"),
             ("set_type", ("a", "article"), b"@Misc {a, t = 1}", b"@article {a, t = 1}"),
             ("rename_key", ("a", "c"), b"@misc{a}@misc{b, crossref = {A}}", b"@misc{c}@misc{b, crossref = {c}}"),
+            ("rename_field", ("t", "title"), b"@misc{a, T = 1}@misc{b, t = m}", b"@misc{a, title = 1}@misc{b, title = m}"),
+            ("rename_field", ("t", "title", "b"), b"@misc{a, t = 1}@misc{b, t = m}", b"@misc{a, t = 1}@misc{b, title = m}"),
             ("rename_macro", ("m", "n"), b"@string{m = 1}@misc{b, t = m}", b"@string{n = 1}@misc{b, t = n}"),
             ("inline", ("m",), b"@string{m = 1}@misc{k, t = m # 1}", b"@misc{k, t = {1} # 1}"),
+            ("undefine", ("m",), b"@misc{a, t = m}@string{m = 1}@misc{b}", b"@misc{a, t = m}@misc{b}"),
             ("introduce", ("m", "x"), b'@misc{a, t = {x} # "x"}', b"@string{m = {x}}\n@misc{a, t = m # m}"),
         ):
             with self.subTest(method):

@@ -326,9 +326,11 @@ by tabs (shown here as spaces):
   move KEY POSITION                      moves the entry there; a number counts the items without the entry
   set-type KEY TYPE                      gives the entry another type, such as book
   rename-key FROM TO                     changes the entry's key and the crossrefs to it
+  rename-field OLD NEW [KEY]             gives the field OLD the name NEW, in every entry or in that of KEY
   rename-macro FROM TO                   renames the macro, in its definition and the uses after it
   inline NAME                            replaces the macro's uses by its text, and removes its definition
   introduce NAME TEXT                    defines the macro and uses it for every {TEXT} or \"TEXT\"
+  undefine NAME                          removes the macro's definition, if nothing after it uses the macro
   regenerate [DEPTH]                     makes a key of names and year for every entry, and updates the crossrefs
   group LABEL                            begins a step: one undo takes back the edits up to its end
   end                                    ends the step
@@ -506,10 +508,11 @@ fn merge<'a>(alloc: Global) -> Result<Command<'a>, AllocError>
         "merge",
         "Merges the changes that two sides made to one file, entry by entry",
         "\
-OURS and THEIRS come from BASE. Each entry, macro, preamble, comment and text is taken from the side that changed it; what
-one side removed goes if the other left it. The merged file takes the place of OURS. If both sides changed an entry or a
-macro, and say different things, both versions are written between the lines `<<<<<<< ours` and `>>>>>>> theirs`; each such
-conflict is printed, and the status is 1. No journal is read or written.
+OURS and THEIRS come from BASE. Each entry, macro, preamble, comment and text is taken from the side that changed it; an entry
+that both changed is merged field by field. What one side removed goes if the other left it. The merged file takes the place
+of OURS. If both sides changed a field, a type or a macro, and say different things, both versions of the entry or the
+macro are written between the lines `<<<<<<< ours` and `>>>>>>> theirs`. Each such conflict is printed, and so is a
+crossref or a macro that no longer means what it meant; the status is 1. No journal is read or written.
 
 git merges so after `git config merge.bibkeep.driver 'bibkeep merge %O %A %B'` and a line `*.bib merge=bibkeep` in the file
 .gitattributes.

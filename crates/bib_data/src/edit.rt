@@ -15,29 +15,72 @@ pub struct NewEntry {
 #[derive(Debug, Drop)]
 pub enum Edit {
     /// Sets the field of this entry to this value; if the entry has no such field, it is added after the last field.
-    SetField { key: Text, field: Text, value: Text },
+    SetField {
+        key: Text,
+        field: Text,
+        value: Text,
+    },
     /// Removes the field of this entry, with the comma before it.
-    DropField { key: Text, field: Text },
+    DropField {
+        key: Text,
+        field: Text,
+    },
     /// Adds the entry before item `place`.
-    AddEntry { place: usize, entry: NewEntry },
+    AddEntry {
+        place: usize,
+        entry: NewEntry,
+    },
     /// Adds the entries after the last item, in order.
-    AddMany { entries: Seq<NewEntry> },
+    AddMany {
+        entries: Seq<NewEntry>,
+    },
     /// Removes the entry; the text after it is kept.
-    RemoveEntry { key: Text },
+    RemoveEntry {
+        key: Text,
+    },
     /// Takes the entry out, and puts it in again before item `place` of the other items.
-    MoveEntry { key: Text, place: usize },
+    MoveEntry {
+        key: Text,
+        place: usize,
+    },
     /// Gives the entry another key, and changes each crossref that names it to the new key.
-    RenameKey { from: Text, to: Text },
+    RenameKey {
+        from: Text,
+        to: Text,
+    },
     /// Gives all entries generated keys at once, made from their records at this depth, from 1 to 8, and changes each
     /// crossref to the new key of its target.
-    RegenerateKeys { depth: u8 },
+    RegenerateKeys {
+        depth: u8,
+    },
     /// Gives the macro another name, in its definition and in each use after that.
-    RenameMacro { from: Text, to: Text },
+    RenameMacro {
+        from: Text,
+        to: Text,
+    },
     /// Replaces each use of the macro after its definition by the macro's text, in braces, and removes the definition.
-    InlineMacro { name: Text },
+    InlineMacro {
+        name: Text,
+    },
     /// Replaces each part that is the text, in braces or in quotes, by a use of a new macro, defined as the text before the
     /// first use.
-    IntroduceMacro { name: Text, text: Text },
+    IntroduceMacro {
+        name: Text,
+        text: Text,
+    },
     /// Gives the entry another type, written as here.
-    SetType { key: Text, kind_name: Text },
+    SetType {
+        key: Text,
+        kind_name: Text,
+    },
+    /// Removes the definition of the macro, which no part after it uses; the text after it is kept.
+    UndefineMacro {
+        name: Text,
+    },
+    /// Gives each field of this name another name, written as here: in every entry, or in the entry that this key names.
+    RenameField {
+        from: Text,
+        to: Text,
+        key: Option<Text>,
+    },
 }

@@ -4,6 +4,7 @@ use Rattle.bib_edit.proofs.Words.{is_new_key, is_type, IsValue, Reading, Reads, 
 use Rattle.bib_edit.proofs.Words.{Refuses, IsPositionTooHigh, IsMissing, IsAmbiguous, IsKeyInUse, IsNameInUse, MergesText, given_keys, given_names, given_types, given_values, has_same, field_names, field_values, entry_of, item_of, edited, IsAccepted, IsFirstRefusal, pieces_of, any_mapped, NewEntry}
 use Rattle.bib_edit.proofs.Words.{made_base, SpellsEntry, SpellEntries, OfEdit, olds_len, news_len, entry_text, insertion_of, keys_given, AllHaveValues, are_named, has_field_twice, is_any_held, AreAddable, AreAnyLong, entries_text, put_in, Adds, one, many}
 use Rattle.edit_spec.specs.Edits as edits
+use Rattle.edit_spec.specs.Edits.{leaves_crossref}
 use Rattle.bib_data.specs.declared.edit.Edit.{Edit as Asked}
 use Rattle.bib_edit.proofs.AskedEdits.{of-add_entry, of-add_many}
 use Rattle.bib_edit.proofs.Ranks.{Passes, no_reason, more, is_first, all_clear}
@@ -47,6 +48,7 @@ are_used news db = list_any (λ new. list_any (same new.key) (keys_of (entries_o
 pub record IsAddition (E : Edit) (n : ℕ) (a : List NewEntry) (news : List edits.NewEntry) (db : Reading) : Type 0 where
   pub spells : SpellEntries a news
   pub keys : given_keys E ≡ map (λ new. new.key) news
+  pub leaves : leaves_crossref E ≡ true
   pub names : given_names E ≡ flat_map field_names news
   pub types : given_types E ≡ map (λ new. new.kind_name) news
   pub values : given_values E ≡ flat_map field_values news
@@ -65,6 +67,7 @@ one-addition : (n : ℕ) (a : NewEntry) (new : edits.NewEntry) → SpellsEntry a
 one-addition n a new spells db = record {
   spells = (spells, tt);
   keys = refl;
+  leaves = refl;
   names = sym (append-nil (field_names new));
   types = refl;
   values = sym (append-nil (field_values new));
@@ -84,6 +87,7 @@ many-addition : (a : List NewEntry) (news : List edits.NewEntry) → SpellEntrie
 many-addition a news spells db = record {
   spells = spells;
   keys = refl;
+  leaves = refl;
   names = refl;
   types = refl;
   values = refl;
@@ -112,8 +116,10 @@ module _ (E : Edit) (n : ℕ) (a : List NewEntry) (news : List edits.NewEntry) (
   keys_tested : list_all is_new_key (given_keys E) ≡ list_all is_new_key (keys_given a)
   keys_tested = ap (list_all is_new_key) (it.keys ∙ keys-spelled a news it.spells)
 
-  names_tested : (list_all is_name (given_names E) && list_all is_type (given_types E)) ≡ are_named a
-  names_tested = ap₂ (λ names types. list_all is_name names && list_all is_type types) (it.names ∙ all_names-spelled a news it.spells) (it.types ∙ types-spelled a news it.spells)
+  names_tested : (leaves_crossref E && (list_all is_name (given_names E) && list_all is_type (given_types E))) ≡ are_named a
+  names_tested =
+      ap (λ b. b && (list_all is_name (given_names E) && list_all is_type (given_types E))) it.leaves
+      ∙ ap₂ (λ names types. list_all is_name names && list_all is_type types) (it.names ∙ all_names-spelled a news it.spells) (it.types ∙ types-spelled a news it.spells)
 
   pub add-bad_key : list_all is_new_key (keys_given a) ≡ false → IsFirstRefusal made_base db E BadKey
   add-bad_key h = is_first BadKey (keys_tested ∙ h) no_reason

@@ -1,11 +1,11 @@
 -- What is asked for, by the kind of edit.
-use Rattle.bib_edit.proofs.Words.{ℕ, List, [], ◌∷◌, ⊎_elim, refl, append-nil, Digits, Text, Value, Spells, SetField, DropField, AddEntry, AddMany, RenameKey, RegenerateKeys, NewEntry, SpellFields, SpellsEntry, SpellEntries, OfEdit, set_field, add_entry, add_many, move_entry, rename_key}
+use Rattle.bib_edit.proofs.Words.{ℕ, List, Option, [], ◌∷◌, ⊎_elim, refl, append-nil, Digits, Text, Value, Spells, SetField, DropField, AddEntry, AddMany, RenameKey, RegenerateKeys, NewEntry, SpellFields, SpellsEntry, SpellEntries, OfEdit, set_field, add_entry, add_many, move_entry, rename_key}
 use Rattle.bib_edit.proofs.Words.{regenerate_keys}
 use Rattle.bib_scan.proofs.PlaceOfFault.{value_or_failing}
 use Rattle.bib_edit.specs.Laws.{EditsAreAskedFor}
 use Rattle.edit_spec.specs.Edits as edits
-use Rattle.bib_data.specs.declared.edit.Edit.TheVariants.{RemoveEntry, MoveEntry, RenameMacro, InlineMacro, IntroduceMacro, SetType}
-use Rattle.bib_edit.specs.Asking.{drop_field, remove_entry, rename_macro, inline_macro, introduce_macro, set_type}
+use Rattle.bib_data.specs.declared.edit.Edit.TheVariants.{RemoveEntry, MoveEntry, RenameMacro, InlineMacro, IntroduceMacro, SetType, UndefineMacro, RenameField}
+use Rattle.bib_edit.specs.Asking.{drop_field, remove_entry, rename_macro, inline_macro, introduce_macro, set_type, undefine_macro, rename_field}
 
 pub of-set_field : (key field value : Text) (P : edits.Edit → Type 0) → ((v : Value) → Spells value v → P (edits.SetField key field v)) → OfEdit (SetField key field value) P
 of-set_field key field value P h e (set_field k f t v s) = h v s
@@ -53,6 +53,8 @@ asked_for (RenameMacro from to) = (edits.RenameMacro from to, rename_macro from 
 asked_for (InlineMacro name) = (edits.InlineMacro name, inline_macro name)
 asked_for (IntroduceMacro name text) = (edits.IntroduceMacro name text, introduce_macro name text)
 asked_for (SetType key kind_name) = (edits.SetType key kind_name, set_type key kind_name)
+asked_for (UndefineMacro name) = (edits.UndefineMacro name, undefine_macro name)
+asked_for (RenameField from to key) = (edits.RenameField from to key, rename_field from to key)
 
 pub of-add_entry : (position : ℕ) (asked : NewEntry) (P : edits.Edit → Type 0) → ((new : edits.NewEntry) → SpellsEntry asked new → P (edits.AddEntry position new)) → OfEdit (AddEntry position asked) P
 of-add_entry position asked P h e (add_entry n a new spells) = h new spells
@@ -83,3 +85,9 @@ of-introduce_macro name text P h e (introduce_macro n t) = h
 
 pub of-set_type : (key kind_name : Text) (P : edits.Edit → Type 0) → P (edits.SetType key kind_name) → OfEdit (SetType key kind_name) P
 of-set_type key kind_name P h e (set_type k t) = h
+
+pub of-undefine_macro : (name : Text) (P : edits.Edit → Type 0) → P (edits.UndefineMacro name) → OfEdit (UndefineMacro name) P
+of-undefine_macro name P h e (undefine_macro n) = h
+
+pub of-rename_field : (from to : Text) (key : Option Text) (P : edits.Edit → Type 0) → P (edits.RenameField from to key) → OfEdit (RenameField from to key) P
+of-rename_field from to key P h e (rename_field f t k) = h

@@ -17,3 +17,5 @@ has_key_base (edits.InlineMacro name) = tt
 has_key_base (edits.IntroduceMacro name text) = tt
 has_key_base (edits.AddMany news) = tt
 has_key_base (edits.SetType key kind_name) = tt
+has_key_base (edits.UndefineMacro name) = tt
+has_key_base (edits.RenameField from to key) = tt

@@ -64,6 +64,10 @@ pub mod MacroPieces
 pub mod RenamedMacro
 pub mod KeptTrails
 pub mod InlinedMacro
+pub mod UndefinedMacro
+pub mod NamedFields
+pub mod RenamedPieces
+pub mod RenamedFields
 pub mod IntroducedMacro
 -- ---- a text that is put in
 pub mod AnyWalks

@@ -1,11 +1,11 @@
 -- The edits of the definitions, as they are asked for: with bytes.
-use Rattle.std.specs.Prelude.{ℕ, List, [], ◌∷◌, ◌≡◌}
+use Rattle.std.specs.Prelude.{ℕ, List, [], ◌∷◌, ◌≡◌, Option}
 use Rattle.bib_spec.specs.Text.{Text}
 use Rattle.bib_spec.specs.Tree.{Value}
 use Rattle.edit_spec.specs.Edits as edits
 use Rattle.edit_spec.specs.Edits.{Spells}
 use Rattle.bib_data.specs.declared.edit.Edit.{Edit}
-use Rattle.bib_data.specs.declared.edit.Edit.TheVariants.{SetField, DropField, AddEntry, AddMany, RemoveEntry, MoveEntry, RenameKey, RegenerateKeys, RenameMacro, InlineMacro, IntroduceMacro, SetType}
+use Rattle.bib_data.specs.declared.edit.Edit.TheVariants.{SetField, DropField, AddEntry, AddMany, RemoveEntry, MoveEntry, RenameKey, RegenerateKeys, RenameMacro, InlineMacro, IntroduceMacro, SetType, UndefineMacro, RenameField}
 use Rattle.bib_data.specs.declared.edit.NewEntry.{NewEntry}
 
 -- the values are what the bytes of the fields say
@@ -42,6 +42,8 @@ pub data AsksFor : Edit → edits.Edit → Type 0 where
   inline_macro : (name : Text) → AsksFor (InlineMacro name) (edits.InlineMacro name)
   introduce_macro : (name text : Text) → AsksFor (IntroduceMacro name text) (edits.IntroduceMacro name text)
   set_type : (key kind_name : Text) → AsksFor (SetType key kind_name) (edits.SetType key kind_name)
+  undefine_macro : (name : Text) → AsksFor (UndefineMacro name) (edits.UndefineMacro name)
+  rename_field : (from to : Text) (key : Option Text) → AsksFor (RenameField from to key) (edits.RenameField from to key)
 
 -- it holds of the edit that is asked for
 abbrev pub OfEdit : Edit → (edits.Edit → Type 0) → Type 0

@@ -12,6 +12,7 @@ pub mod Limits
 pub mod Dangling
 pub mod NewKeys
 pub mod Replacing
+pub mod RenamedFields
 pub mod Definitions
 pub mod Laws
 pub mod Insertions

@@ -29,12 +29,14 @@ mod referring;
 mod regenerate_keys;
 mod rekeying;
 mod remove_entry;
+mod rename_field;
 mod rename_key;
 mod rename_macro;
 mod replacing;
 mod set_field;
 mod set_type;
 mod taking_out;
+mod undefine_macro;
 mod unused_keys;
 mod values;
 

@@ -13,10 +13,12 @@ use crate::introduce_macro::introduce_macro;
 use crate::move_entry::move_entry;
 use crate::regenerate_keys::regenerate_keys;
 use crate::remove_entry::remove_entry;
+use crate::rename_field::{rename_in_all, rename_in_entry};
 use crate::rename_key::rename_key;
 use crate::rename_macro::rename_macro;
 use crate::set_field::set_field;
 use crate::set_type::set_type;
+use crate::undefine_macro::undefine_macro;
 use bib_data::Edit;
 use bib_scan::Seq;
 use bib_store::{Database, ItemList, Piece};
@@ -64,5 +66,16 @@ pub fn plan<L: ItemList>(
         Edit::SetType { key, kind_name } => {
             set_type(alloc, db, key.as_slice(), kind_name.as_slice())
         }
+        Edit::UndefineMacro { name } => undefine_macro(alloc, db, name.as_slice()),
+        Edit::RenameField {
+            from,
+            to,
+            key: None,
+        } => rename_in_all(alloc, db, from.as_slice(), to.as_slice()),
+        Edit::RenameField {
+            from,
+            to,
+            key: Some(key),
+        } => rename_in_entry(alloc, db, from.as_slice(), to.as_slice(), key.as_slice()),
     }
 }

@@ -1,18 +1,21 @@
 //! Edits that are refused.
 
-use crate::items::{Item, definitions, field_of, holders, items_of, line_of};
+use crate::items::{
+    Item, definitions, field_of, holders, is_definition_of, items_of, line_of, place_of_use,
+};
 use crate::lines::Lines;
 use crate::parts::Part;
 use crate::positions::{
     hint_insert_position, hint_no_entry, hint_number, hint_positions, hint_twice, key_in,
 };
+use crate::renamed_fields::{hint_clashes, hint_field_names, hint_unnamed_field};
 use crate::verbs::{VERBS, form_of, is_month};
 use bib_scan::{ItemView, Kind, is_balanced, is_name, is_type, read_value, same_folded};
 use bib_text::trimmed;
 use std::alloc::AllocError;
 
 /// So many entries that refer to an entry are named.
-const NAMED: usize = 3;
+pub const NAMED: usize = 3;
 
 /// The words of an edit, with the name of its file and the bytes of the file that it was refused on.
 #[derive(Clone, Copy)]
@@ -24,7 +27,7 @@ pub struct Edit<'a> {
 
 impl<'a> Edit<'a> {
     /// The word with this number, counted from 0; empty if there is none.
-    fn word(&self, n: usize) -> &'a [u8] {
+    pub fn word(&self, n: usize) -> &'a [u8] {
         match self.words.get(n) {
             Some(word) => word,
             None => b"",
@@ -119,7 +122,15 @@ fn hint_key(lines: &mut Lines, edit: &Edit<'_>) -> Result<(), AllocError> {
     )
 }
 
+/// Whether the second word alone is to be the name of a macro.
+fn names_macro_first(edit: &Edit<'_>) -> bool {
+    edit.is_named(b"introduce") || edit.is_named(b"inline") || edit.is_named(b"undefine")
+}
+
 fn hint_name(lines: &mut Lines, edit: &Edit<'_>) -> Result<(), AllocError> {
+    if edit.is_named(b"rename-field") {
+        return hint_field_names(lines, edit);
+    }
     let is_typed = edit.is_named(b"set-type") || edit.is_named(b"add") && !is_type(edit.word(2));
     if is_typed {
         let parts = [Part::Name(edit.word(2))];
@@ -128,7 +139,7 @@ fn hint_name(lines: &mut Lines, edit: &Edit<'_>) -> Result<(), AllocError> {
     if edit.is_named(b"add") {
         return hint_added_name(lines, edit);
     }
-    if edit.is_named(b"introduce") {
+    if names_macro_first(edit) {
         let parts = [Part::Name(edit.word(1))];
         return lines.say(b"% can be no name of a macro", &parts);
     }
@@ -206,10 +217,13 @@ fn hint_position(lines: &mut Lines, edit: &Edit<'_>) -> Result<(), AllocError> {
 
 /// Whether the second word is the name of a macro.
 fn is_about_macro(edit: &Edit<'_>) -> bool {
-    edit.is_named(b"rename-macro") || edit.is_named(b"inline")
+    edit.is_named(b"rename-macro") || edit.is_named(b"inline") || edit.is_named(b"undefine")
 }
 
 fn hint_missing(lines: &mut Lines, edit: &Edit<'_>) -> Result<(), AllocError> {
+    if edit.is_named(b"rename-field") {
+        return hint_unnamed_field(lines, edit);
+    }
     if edit.is_named(b"introduce") {
         let parts = [Part::Name(edit.word(2))];
         return lines.say(
@@ -257,6 +271,9 @@ fn hint_missing_macro(lines: &mut Lines, edit: &Edit<'_>) -> Result<(), AllocErr
 }
 
 fn hint_ambiguous(lines: &mut Lines, edit: &Edit<'_>) -> Result<(), AllocError> {
+    if edit.is_named(b"rename-field") {
+        return hint_clashes(lines, edit);
+    }
     let alloc = lines.alloc();
     let items = items_of(alloc, edit.file)?;
     if is_about_macro(edit) {
@@ -292,7 +309,7 @@ fn hint_macro_twice(
 }
 
 /// Where the entries are that have the same key.
-fn hint_key_twice(
+pub fn hint_key_twice(
     lines: &mut Lines,
     edit: &Edit<'_>,
     key: &[u8],
@@ -405,6 +422,9 @@ fn hint_name_in_use(lines: &mut Lines, edit: &Edit<'_>) -> Result<(), AllocError
 }
 
 fn hint_referred(lines: &mut Lines, edit: &Edit<'_>) -> Result<(), AllocError> {
+    if edit.is_named(b"undefine") {
+        return hint_used(lines, edit);
+    }
     let alloc = lines.alloc();
     let items = items_of(alloc, edit.file)?;
     let mut count = 0usize;
@@ -434,6 +454,37 @@ fn hint_referred(lines: &mut Lines, edit: &Edit<'_>) -> Result<(), AllocError> {
     )
 }
 
+/// Where uses see the definition that the edit removes.
+fn hint_used(lines: &mut Lines, edit: &Edit<'_>) -> Result<(), AllocError> {
+    let alloc = lines.alloc();
+    let items = items_of(alloc, edit.file)?;
+    let name = edit.word(1);
+    let mut is_defined = false;
+    let mut count = 0usize;
+    'items: for item in items.as_slice() {
+        if let Some(place) = place_of_use(alloc, item, name)? {
+            if is_defined {
+                count = count.saturating_add(1);
+                if count <= NAMED {
+                    let line = line_of(edit.file, item.start.saturating_add(place));
+                    let parts = [Part::Count(line), Part::Name(name)];
+                    lines.say(b"a value in line % uses the macro %", &parts)?;
+                }
+            }
+        }
+        is_defined = is_defined || is_definition_of(item, name);
+    }
+    if count > NAMED {
+        let parts = [Part::Count(count - NAMED)];
+        lines.say(b"and % more", &parts)?;
+    }
+    let parts = [Part::Typed(edit.name, b"F"), Part::Typed(name, b"NAME")];
+    lines.say(
+        b"bibkeep edit % inline % writes the macro's text for its uses, and removes the definition",
+        &parts,
+    )
+}
+
 fn hint_merge(lines: &mut Lines, edit: &Edit<'_>) -> Result<(), AllocError> {
     if edit.is_named(b"drop") {
         return lines.say(
@@ -442,6 +493,12 @@ fn hint_merge(lines: &mut Lines, edit: &Edit<'_>) -> Result<(), AllocError> {
         );
     }
     let parts = [Part::Name(edit.word(1))];
+    if is_about_macro(edit) {
+        return lines.say(
+            b"without the definition of %, the text before and after it would be read as an item",
+            &parts,
+        );
+    }
     lines.say(
         b"without the entry %, the text before and after it would be read as an item",
         &parts,

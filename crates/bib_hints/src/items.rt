@@ -1,6 +1,10 @@
 //! The items of a file, and where they are.
 
-use bib_scan::{FieldView, ItemView, Kind, NAME_LIMIT, Reader, same_folded};
+ghost use Rattle.bib_scan.specs.ValueParts.{IsPartsOf};
+
+use bib_scan::{
+    FieldView, ItemView, Kind, NAME_LIMIT, Part, Parts, Reader, read_value, same_folded,
+};
 use folded_map::FoldedMap;
 use memchr::memrchr;
 use std::alloc::{AllocError, Global};
@@ -126,6 +130,58 @@ pub fn field_of<'a>(item: &Item<'a>, name: &[u8]) -> Option<FieldView<'a>> {
         }
     }
     None
+}
+
+/// Whether the item is a definition of this macro, ignoring case.
+pub fn is_definition_of(item: &Item<'_>, name: &[u8]) -> bool {
+    match defined_by(item) {
+        Some(defined) => same_folded(defined, name),
+        None => false,
+    }
+}
+
+/// Where the value of the item's first field that uses this macro begins in the item.
+pub fn place_of_use(
+    alloc: Global,
+    item: &Item<'_>,
+    name: &[u8],
+) -> Result<Option<usize>, AllocError> {
+    let view = ItemView::of(item.body, b"");
+    'fields: for field in view.fields() {
+        if is_used_in(alloc, field.value, name)? {
+            return Ok(Some(field.value_at));
+        }
+    }
+    Ok(None)
+}
+
+/// Whether a part of the value is the macro's name, ignoring case.
+fn is_used_in(alloc: Global, value: &[u8], name: &[u8]) -> Result<bool, AllocError> {
+    match read_value(alloc, value) {
+        Ok(parts) => Ok(is_used_among(value, &parts, name)),
+        Err(fault) if fault.is_memory() => Err(AllocError),
+        Err(_) => Ok(false),
+    }
+}
+
+/// Whether one of these parts of a value is the macro's name, ignoring case.
+fn is_used_among(value: &[u8], parts: &Parts, name: &[u8]) -> bool
+    requires { IsPartsOf value.now parts.now }
+{
+    'parts: for n in 0..parts.len() {
+        if is_use(parts.part(value, n), name) {
+            return true;
+        }
+    }
+    false
+}
+
+/// Whether the part is the macro's name, ignoring case.
+fn is_use(part: Part<'_>, name: &[u8]) -> bool {
+    match part {
+        Part::Macro(used) => same_folded(used, name),
+        _ => false,
+    }
 }
 
 /// The line of a place in a text, counted from 1.

@@ -15,6 +15,7 @@ mod lines;
 mod notes;
 mod parts;
 mod positions;
+mod renamed_fields;
 mod said;
 mod script;
 mod usages;

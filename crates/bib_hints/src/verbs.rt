@@ -23,13 +23,20 @@ pub fn form_of(verb: &[u8]) -> &'static [u8] {
     if verb == b"regenerate".as_slice() {
         return b"regenerate [DEPTH]";
     }
+    form_of_renaming(verb)
+}
+
+fn form_of_renaming(verb: &[u8]) -> &'static [u8] {
+    if verb == b"rename-key".as_slice() {
+        return b"rename-key FROM TO";
+    }
+    if verb == b"rename-field".as_slice() {
+        return b"rename-field OLD NEW [KEY]";
+    }
     form_of_macro_edit(verb)
 }
 
 fn form_of_macro_edit(verb: &[u8]) -> &'static [u8] {
-    if verb == b"rename-key".as_slice() {
-        return b"rename-key FROM TO";
-    }
     if verb == b"rename-macro".as_slice() {
         return b"rename-macro FROM TO";
     }
@@ -38,6 +45,9 @@ fn form_of_macro_edit(verb: &[u8]) -> &'static [u8] {
     }
     if verb == b"introduce".as_slice() {
         return b"introduce NAME TEXT";
+    }
+    if verb == b"undefine".as_slice() {
+        return b"undefine NAME";
     }
     form_of_step(verb)
 }
@@ -59,7 +69,7 @@ pub fn is_verb(word: &[u8]) -> bool {
 
 /// The edits, in a line.
 pub const VERBS: &[u8] =
-    b"the edits: set drop add remove move set-type rename-key rename-macro inline introduce regenerate; in a script also group end";
+    b"the edits: set drop add remove move set-type rename-key rename-field rename-macro inline introduce undefine regenerate; in a script also group end";
 
 /// Whether the name is that of a month, which each file knows.
 pub fn is_month(name: &[u8]) -> bool {

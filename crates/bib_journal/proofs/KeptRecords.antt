@@ -1,6 +1,6 @@
 -- What renamings keep, of the files of a session.
 use Rattle.bib_journal.proofs.Words.{◌≡◌, ◌≢◌, ℕ, zero, suc, Bool, true, List, [], ◌∷◌, Option, Some, None, take, refl, sym, ◌∙◌, ap, subst, false≢true, name_limit, Text, Reading, Reads, bytes_of, one_reading, IsAccepted, KeptSteps, history_of, Edit, SetField, DropField, AddEntry, AddMany}
-use Rattle.bib_journal.proofs.Words.{RemoveEntry, MoveEntry, RenameKey, RegenerateKeys, RenameMacro, InlineMacro, IntroduceMacro, SetType, Request, EditFault, made_base, AsksFor, OfEdit, asked_for, has_key_base, SessionState, DoesAll, OfReadings}
+use Rattle.bib_journal.proofs.Words.{RemoveEntry, MoveEntry, RenameKey, RegenerateKeys, RenameMacro, InlineMacro, IntroduceMacro, SetType, UndefineMacro, RenameField, Request, EditFault, made_base, AsksFor, OfEdit, asked_for, has_key_base, SessionState, DoesAll, OfReadings}
 use Rattle.std.proofs.Common.{◌&&◌, option_map, slice_get}
 use Rattle.std.specs.List.{list_all}
 use Rattle.std.proofs.lemmas.Bool.{and_parts}
@@ -12,10 +12,12 @@ use Rattle.edit_spec.specs.Laws.{KeepsEntries, record_with_key, no_new_key}
 use Rattle.edit_spec.proofs.RenameKey.{rename-key-keeps}
 use Rattle.edit_spec.proofs.Regenerate.{regenerate-keys-keeps, made-keys-differ, regenerating-again}
 use Rattle.edit_spec.proofs.SetType.{set-type-keeps}
+use Rattle.edit_spec.proofs.UndefineMacro.{undefine-macro-keeps}
+use Rattle.edit_spec.proofs.RenameField.{rename-field-keeps}
 use Rattle.edit_spec.proofs.MacroLaws.{rename-macro-keeps, inline-macro-keeps, introduce-macro-keeps}
 use Rattle.bib_data.specs.declared.request.Request.TheVariants as request
 use Rattle.bib_edit.specs.declared.fault.EditFault.TheVariants as edit_fault
-use Rattle.bib_edit.specs.Asking.{rename_key, regenerate_keys, rename_macro, inline_macro, introduce_macro, set_type}
+use Rattle.bib_edit.specs.Asking.{rename_key, regenerate_keys, rename_macro, inline_macro, introduce_macro, set_type, undefine_macro, rename_field}
 use Rattle.bib_edit.specs.Planning.{IsRefusal}
 use Rattle.bib_journal.proofs.MadeFiles.{moved_present, made-reads, of-made}
 use Rattle.bib_journal.specs.Renaming.{Keeps, edit_keeps, keys_are_made_once, is_renaming, without_key, KeepsTexts, requests_keep}
@@ -43,6 +45,11 @@ made-keeps (IntroduceMacro name text) db db' allowed is =
     (introduce-macro-keeps made_base db name text (allowed (edits.IntroduceMacro name text) (introduce_macro name text)))
 made-keeps (SetType key kind_name) db db' allowed is =
     subst (Keeps (SetType key kind_name) db) (sym (is (edits.SetType key kind_name) (set_type key kind_name))) (set-type-keeps made_base db key kind_name (allowed (edits.SetType key kind_name) (set_type key kind_name)))
+made-keeps (UndefineMacro name) db db' allowed is =
+    subst (Keeps (UndefineMacro name) db) (sym (is (edits.UndefineMacro name) (undefine_macro name))) (undefine-macro-keeps made_base db name (allowed (edits.UndefineMacro name) (undefine_macro name)))
+made-keeps (RenameField from to key) db db' allowed is =
+    subst (Keeps (RenameField from to key) db) (sym (is (edits.RenameField from to key) (rename_field from to key)))
+    (rename-field-keeps made_base db from to key (allowed (edits.RenameField from to key) (rename_field from to key)))
 made-keeps (SetField key field value) db db' allowed is = tt
 made-keeps (DropField key field) db db' allowed is = tt
 made-keeps (AddEntry position entry) db db' allowed is = tt
@@ -107,6 +114,8 @@ renaming-texts (RegenerateKeys depth) is old new keeps = keeps-texts (slice_get 
 renaming-texts (RenameMacro from to) is old new keeps = keeps-texts no_new_key old new keeps.0
 renaming-texts (InlineMacro name) is old new keeps = keeps-texts no_new_key old new keeps.0
 renaming-texts (IntroduceMacro name text) is old new keeps = keeps-texts no_new_key old new keeps.0
+renaming-texts (UndefineMacro name) is old new keeps = keeps-texts no_new_key old new keeps.0
+renaming-texts (RenameField from to key) is old new keeps = absurd (false≢true is)
 renaming-texts (SetField key field value) is old new keeps = absurd (false≢true is)
 renaming-texts (DropField key field) is old new keeps = absurd (false≢true is)
 renaming-texts (AddEntry position entry) is old new keeps = absurd (false≢true is)

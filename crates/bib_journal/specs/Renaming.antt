@@ -6,11 +6,11 @@ use Rattle.bib_spec.specs.Reading.{Reading}
 use Rattle.bib_spec.specs.Records.{Record, entries_of, preambles_of, keys_of, entry_named, parent, expanded}
 use Rattle.bib_spec.specs.MadeKeys.{new_keys}
 use Rattle.edit_spec.specs.Edits.{key_for}
-use Rattle.edit_spec.specs.Laws.{KeepsEntries, KeepsAllButTypes, KeepsMacros, KeepsCitations, KeepsCitationsByKey, SeesRenamed, SeesInlined, SeesIntroduced, AllDiffer, no_new_key, type_for}
+use Rattle.edit_spec.specs.Laws.{KeepsEntries, KeepsAllButNames, KeepsAllButTypes, is_renamed_in, KeepsMacros, KeepsCitations, KeepsCitationsByKey, SeesRenamed, SeesInlined, SeesIntroduced, SeesUndefined, AllDiffer, no_new_key, type_for}
 use Rattle.history_spec.specs.Steps.{IsSound}
 use Rattle.bib_store.specs.Readings.{OfReading}
 use Rattle.bib_data.specs.declared.edit.Edit.{Edit}
-use Rattle.bib_data.specs.declared.edit.Edit.TheVariants.{RenameKey, RegenerateKeys, RenameMacro, InlineMacro, IntroduceMacro, SetType}
+use Rattle.bib_data.specs.declared.edit.Edit.TheVariants.{RenameKey, RegenerateKeys, RenameMacro, InlineMacro, IntroduceMacro, SetType, UndefineMacro, RenameField}
 use Rattle.bib_data.specs.declared.request.Request.{Request}
 use Rattle.bib_data.specs.declared.request.Request.TheVariants as request
 use Rattle.bib_edit.specs.declared.fault.EditFault.{EditFault}
@@ -24,7 +24,7 @@ use Rattle.bib_journal.specs.Session.{MakesEdit, RefusesEdit, Performs}
 
 -- What a renaming keeps: each entry's record and parent, each preamble, what each macro stands for, and each cited list are
 -- what they were, except the names that it gives. Keys that are made all differ. An entry that gets another type keeps all but
--- that type. Nothing is said here about other edits.
+-- that type, and entries whose fields get another name keep all but these names. Nothing is said here about other edits.
 abbrev pub Keeps : Edit → Reading → Reading → Type 0
 Keeps (RenameKey from to) old new = KeepsEntries (key_for (entry_named (entries_of old) from) to) old new × KeepsMacros old new × KeepsCitationsByKey old new
 Keeps (RegenerateKeys depth) old new =
@@ -32,6 +32,8 @@ Keeps (RegenerateKeys depth) old new =
 Keeps (RenameMacro from to) old new = KeepsEntries no_new_key old new × KeepsCitations old new × SeesRenamed from to old new
 Keeps (InlineMacro name) old new = KeepsEntries no_new_key old new × KeepsCitations old new × SeesInlined name old new
 Keeps (IntroduceMacro name text) old new = KeepsEntries no_new_key old new × KeepsCitations old new × SeesIntroduced name text old new
+Keeps (UndefineMacro name) old new = KeepsEntries no_new_key old new × KeepsCitations old new × SeesUndefined name old new
+Keeps (RenameField from to key) old new = KeepsAllButNames from to (is_renamed_in old key) old new × KeepsMacros old new × KeepsCitations old new
 Keeps (SetType key kind_name) old new = KeepsAllButTypes (type_for (entry_named (entries_of old) key) kind_name) old new × KeepsMacros old new × KeepsCitations old new
 Keeps other old new = Unit {0}
 
@@ -56,14 +58,15 @@ keys_are_made_once = (depth : ℕ) (old new : SessionState) → IsSound old.step
 
 -- ---- many renamings
 
--- the request renames a key or a macro, makes all keys again, writes a macro's text for its uses, or gives a text a name; or it
--- begins or ends a step of such edits
+-- the request renames a key or a macro, makes all keys again, writes a macro's text for its uses, gives a text a name, or removes
+-- a definition that nothing uses; or it begins or ends a step of such edits
 abbrev pub is_renaming : Request → Bool
 is_renaming (request.Edit (RenameKey from to)) = true
 is_renaming (request.Edit (RegenerateKeys depth)) = true
 is_renaming (request.Edit (RenameMacro from to)) = true
 is_renaming (request.Edit (InlineMacro name)) = true
 is_renaming (request.Edit (IntroduceMacro name text)) = true
+is_renaming (request.Edit (UndefineMacro name)) = true
 is_renaming (request.Begin label) = true
 is_renaming request.End = true
 is_renaming other = false

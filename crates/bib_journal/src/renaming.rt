@@ -3,8 +3,9 @@
 ghost use Rattle.bib_journal.specs.Renaming.{edit_keeps, keys_are_made_once, requests_keep};
 
 /// Renaming keeps every record. If `Session::edit` renames a key or a macro, makes all keys again, writes a macro's text
-/// for its uses or gives a text a name, each entry's record and parent, each preamble, what each macro stands for at each
-/// item, and each cited list are as they were, except the names that the edit gives.
+/// for its uses, gives a text a name or removes a definition that nothing uses, each entry's record and parent, each preamble,
+/// what each macro stands for at each item, and each cited list are as they were, except the names that the edit gives. If it
+/// renames fields, each entry's own texts are as they were, except the names of these fields, and all else is.
 pub fn renaming_keeps_every_record()
     ensures { edit_keeps }
 {}

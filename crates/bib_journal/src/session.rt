@@ -60,7 +60,10 @@ impl<L: ItemList> Model for Session<L> {
 /// Whether the edit seeks parts of values in the whole file, as edits of macros do. Only time depends on it.
 fn seeks_parts(edit: &Edit) -> bool {
     match edit {
-        Edit::RenameMacro { .. } | Edit::InlineMacro { .. } | Edit::IntroduceMacro { .. } => true,
+        Edit::RenameMacro { .. }
+        | Edit::InlineMacro { .. }
+        | Edit::IntroduceMacro { .. }
+        | Edit::UndefineMacro { .. } => true,
         _ => false,
     }
 }

@@ -1,0 +1,4 @@
+pub mod FollowedFiles
+pub mod Spaces
+pub mod UnchangedSides
+pub mod TakenFiles

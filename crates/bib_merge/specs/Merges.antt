@@ -1,25 +1,89 @@
 -- What the text of a merge is, and why there is none.
-use Rattle.std.specs.Prelude.{◌≡◌, ◌≢◌, true, List}
-use Rattle.bib_spec.specs.Text.{Text}
+use Rattle.std.specs.Prelude.{◌≡◌, ◌≢◌, true, List, [], map}
+use Rattle.bib_spec.specs.Text.{Text, folded}
 use Rattle.bib_spec.specs.Reading.{Reading}
-use Rattle.bib_spec.specs.Texts.{IsOpenable}
+use Rattle.bib_spec.specs.Texts.{Opens, IsOpenable}
+use Rattle.bib_spec.specs.Records.{entries_of}
 use Rattle.bib_scan.specs.declared.fault.ReadFault.{ReadFault}
 use Rattle.bib_store.specs.Readings.{IsOpenFault}
-use Rattle.merge_spec.specs.Units.{units_of}
+use Rattle.merge_spec.specs.Units.{Label, EntryLabel, MacroLabel, units_of}
 use Rattle.merge_spec.specs.Merged.{Place, merged_bytes, is_merge}
+use Rattle.merge_spec.specs.Parents.{lost_keys}
 use Rattle.merge_spec.specs.Conflicts.{Conflict, conflicts_of}
+use Rattle.bib_renames.specs.declared.conflict.KeyConflict.{KeyConflict}
+use Rattle.bib_renames.specs.declared.given.GivenName.{GivenName}
+use Rattle.bib_renames.specs.declared.rename.Named.{Named}
+use Rattle.bib_renames.specs.declared.rename.Named.TheVariants as named
+use Rattle.bib_renames.specs.Renamed.{FollowNames, AreKeyConflicts, AreGiven}
+use Rattle.bib_uses.specs.Lost.{lost_uses}
+use Rattle.bib_uses.specs.declared.losing.LostUse.{LostUse}
 use Rattle.bib_places.specs.declared.place.File.{File}
 use Rattle.bib_places.specs.declared.place.File.TheVariants as file
 use Rattle.bib_merge.specs.declared.fault.MergeFault.{MergeFault}
 use Rattle.bib_merge.specs.declared.fault.MergeFault.TheVariants.{Base, Ours, Theirs, Memory, TextTooLong, FileTooLong, WouldMerge}
 
--- the text is that of places that are a merge of the three files, and these are its conflicts
-pub record IsMergeOf (base ours theirs : Reading) (text : Text) (conflicts : List Conflict) : Type 0 where
+-- the label of an entry or a definition with this name
+abbrev pub label_named : Named → Text → Label
+label_named named.Entry name = EntryLabel (folded name)
+label_named named.Macro name = MacroLabel (folded name)
+
+-- the label of what got this name
+abbrev pub label_given : GivenName → Label
+label_given given = label_named given.what given.name
+
+-- the text is that of places that are a merge of the three files, in which the sides gave units these labels, and these are its
+-- conflicts
+pub record IsMergeOf (given : List Label) (base ours theirs : Reading) (text : Text) (conflicts : List Conflict) : Type 0 where
   pub places : List Place
   pub space : Text
-  pub merge : is_merge (units_of base) (units_of ours) (units_of theirs) places ≡ true
+  pub merge : is_merge given (units_of base) (units_of ours) (units_of theirs) places ≡ true
   pub bytes : merged_bytes (units_of ours) (units_of theirs) space places ≡ text
   pub told : conflicts_of (units_of base) (units_of ours) (units_of theirs) places ≡ conflicts
+
+-- The text, its conflicts, the keys of the entries that have lost their parents, and the uses of macros that have lost their meaning
+-- are those of a merge of three files, in which the sides gave units these labels. Each of the files can be opened, and so can the text.
+pub record IsMergeOfThree (given : List Label) (base ours theirs text : Text) (conflicts : List Conflict) (lost : List Text) (uses : List LostUse) : Type 0 where
+  pub rb : Reading
+  pub ro : Reading
+  pub rt : Reading
+  pub rm : Reading
+  pub base_opens : Opens base rb
+  pub ours_opens : Opens ours ro
+  pub theirs_opens : Opens theirs rt
+  pub text_opens : Opens text rm
+  pub merge : IsMergeOf given rb ro rt text conflicts
+  pub lose : lost ≡ lost_keys (entries_of ro) (entries_of rt) (entries_of rm)
+  pub change : uses ≡ lost_uses ro rt rm
+
+-- the text is this file, and there is no conflict
+pub record IsFile (file text : Text) (conflicts : List Conflict) : Type 0 where
+  pub text_is : text ≡ file
+  pub none : conflicts ≡ []
+
+-- If one side left the common file as it was, byte for byte, the text is the file of the other side. If both sides have the same file,
+-- the text is that file.
+pub record LeavesTheOther (base ours theirs text : Text) (conflicts : List Conflict) : Type 0 where
+  pub ours_left : ours ≡ base → IsFile theirs text conflicts
+  pub theirs_left : theirs ≡ base → IsFile ours text conflicts
+  pub same : ours ≡ theirs → IsFile ours text conflicts
+
+-- each of the three files differs from the others
+pub record AllDiffer (base ours theirs : Text) : Type 0 where
+  pub ours_changed : ours ≢ base
+  pub theirs_changed : theirs ≢ base
+  pub differ : ours ≢ theirs
+
+-- The same of three files after renamings of entries and macros, by which each follows the names that the sides gave. These are keys
+-- over which the sides are in conflict, and what one side named and the other took away has these names.
+pub record IsMergeOfFiles (base ours theirs text : Text) (keys : List KeyConflict) (conflicts : List Conflict) (lost : List Text) (uses : List LostUse) : Type 0 where
+  pub base_file : Text
+  pub ours_file : Text
+  pub theirs_file : Text
+  pub names : FollowNames base ours theirs base_file ours_file theirs_file
+  pub given : List GivenName
+  pub named : AreGiven base ours theirs given
+  pub merge : IsMergeOfThree (map label_given given) base_file ours_file theirs_file text conflicts lost uses
+  pub told : AreKeyConflicts base ours theirs keys
 
 -- the fault of a file that cannot be opened for this reason
 abbrev pub fault_in : File → ReadFault → MergeFault
@@ -39,9 +103,14 @@ pub data IsMergedFault : MergeFault → Type 0 where
   would_merge : IsMergedFault WouldMerge
   no_memory : IsMergedFault Memory
 
+-- why three files that can be opened are not merged; if a side changed nothing, or both made the same, only memory may run out
+pub data IsThreeFault (base ours theirs : Text) : MergeFault → Type 0 where
+  changed : (fault : MergeFault) → AllDiffer base ours theirs → IsMergedFault fault → IsThreeFault base ours theirs fault
+  no_memory : IsThreeFault base ours theirs Memory
+
 -- why there is no merge of three files: the first of them that cannot be opened is at fault, or all can be opened
 pub data IsMergeFault (base ours theirs : Text) (fault : MergeFault) : Type 0 where
   in_base : IsOpeningFault file.Base base fault → IsMergeFault base ours theirs fault
   in_ours : IsOpenable base → IsOpeningFault file.Ours ours fault → IsMergeFault base ours theirs fault
   in_theirs : IsOpenable base → IsOpenable ours → IsOpeningFault file.Theirs theirs fault → IsMergeFault base ours theirs fault
-  in_merged : IsOpenable base → IsOpenable ours → IsOpenable theirs → IsMergedFault fault → IsMergeFault base ours theirs fault
+  in_merged : IsOpenable base → IsOpenable ours → IsOpenable theirs → IsThreeFault base ours theirs fault → IsMergeFault base ours theirs fault

@@ -10,8 +10,12 @@ mod ordering;
 mod outcomes;
 mod pairing;
 mod spacing;
+mod told;
+mod unchanged;
 
-pub use bib_places::{Change, ChangedPart, Conflict};
+pub use bib_places::{Change, ChangedPart, Conflict, OwnedLabel};
+pub use bib_renames::KeyConflict;
 pub use bib_units::Label;
+pub use bib_uses::LostUse;
 pub use fault::MergeFault;
 pub use merging::{Merged, merge};

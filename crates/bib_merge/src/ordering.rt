@@ -174,7 +174,7 @@ impl Chain {
 }
 
 /// Whether number `n` is marked.
-fn is_marked(marks: &[bool], n: usize) -> bool {
+pub(crate) fn is_marked(marks: &[bool], n: usize) -> bool {
     match marks.get(n) {
         Some(mark) => *mark,
         None => false,

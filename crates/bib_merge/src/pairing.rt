@@ -89,15 +89,15 @@ pub(crate) struct Rows {
 }
 
 impl Rows {
-    /// No rows.
-    pub fn none(alloc: Global) -> Self {
-        Rows {
+    /// No rows; there is room for this many.
+    pub fn none(alloc: Global, count: usize) -> Result<Self, AllocError> {
+        Ok(Rows {
             alloc,
-            rows: Vec::new(alloc),
-            firsts: HashMap::new(alloc),
-            nexts: Vec::new(alloc),
+            rows: Vec::with_capacity(alloc, count)?,
+            firsts: HashMap::with_capacity(alloc, count)?,
+            nexts: Vec::with_capacity(alloc, count)?,
             code: Vec::new(alloc),
-        }
+        })
     }
 
     /// A new row.
@@ -110,14 +110,22 @@ impl Rows {
 
     /// The first row of a label, which is a new one if there is none yet.
     fn first(&mut self, label: Label<'_>) -> Result<usize, AllocError> {
-        write_code(&mut self.code, label)?;
-        if let Some(row) = self.firsts.get(&self.code) {
-            return Ok(*row);
+        if let Some(row) = self.with_label(label)? {
+            return Ok(row);
         }
         let row = self.new_row()?;
         let code = Vec::from_slice(self.alloc, self.code.as_slice())?;
         self.firsts.insert(code, row)?;
         Ok(row)
+    }
+
+    /// The first row of a label, if there is one.
+    pub fn with_label(&mut self, label: Label<'_>) -> Result<Option<usize>, AllocError> {
+        write_code(&mut self.code, label)?;
+        match self.firsts.get(&self.code) {
+            Some(row) => Ok(Some(*row)),
+            None => Ok(None),
+        }
     }
 
     /// The row after this one of the same label, which is a new one if there is none yet.

@@ -1,8 +1,9 @@
 -- Labels are counted by their codes.
-use Rattle.std.proofs.Common.{◌≡◌, ℕ, ◌+◌, ◌<◌, ◌||◌, ◌&&◌, Bool, true, cond, List, [], ◌∷◌, length, take, get_or, map, count_by, refl, sym, ◌∙◌, ap, ap₂, subst, arith}
+use Rattle.std.proofs.Common.{◌≡◌, ◌==◌, ℕ, ◌+◌, ◌<◌, ◌||◌, ◌&&◌, not, ⊎_elim, Bool, true, false, cond, List, [], ◌∷◌, length, take, get_or, map, count_by, refl, sym, ◌∙◌, ap, ap₂, subst, arith}
 use Rattle.std.specs.Prelude.{nat_le}
 use Rattle.std.specs.Str.{bytes_eq}
-use Rattle.std.specs.List.{list_all}
+use Rattle.std.specs.List.{list_all, list_any}
+use Rattle.std.proofs.lemmas.Bool.{cases_Bool, eqb-true}
 use Rattle.std.proofs.lemmas.List.{take_more}
 use Rattle.std.proofs.lemmas.List.Sums.{sum_by-append, sum_by-cons}
 use Rattle.bib_spec.specs.Text.{Text}
@@ -34,6 +35,25 @@ count-codes l (m ∷ labels) =
     count-cons (bytes_eq (code_of l)) (code_of m) (map code_of labels)
     ∙ ap₂ (λ b n. cond b 1 0 + n) (same-codes l m) (count-codes l labels)
     ∙ sym (count-cons (same_label l) m labels)
+
+-- an element passes the test if those that do are counted
+pub any-counted : {X : Type 0} (test : X → Bool) (xs : List X) → list_any test xs ≡ not (count_by test xs == 0)
+any-counted test [] = refl
+any-counted test (x ∷ xs) =
+    ⊎_elim (λ e. ap (λ b. b || list_any test xs) e
+    ∙ sym (ap (λ n. not (n == 0)) (count-cons test x xs ∙ ap (λ b. cond b 1 0 + count_by test xs) e) ∙ ap not (some (count_by test xs))))
+    (λ e. ap (λ b. b || list_any test xs) e ∙ any-counted test xs
+    ∙ sym (ap (λ n. not (n == 0)) (count-cons test x xs ∙ ap (λ b. cond b 1 0 + count_by test xs) e ∙ none (count_by test xs))))
+    (cases_Bool (test x))
+  where
+    none : (n : ℕ) → 0 + n ≡ n
+    none n = omega arith
+
+    some : (n : ℕ) → (1 + n == 0) ≡ false
+    some n = ⊎_elim (λ e. absurd (no n (eqb-true (1 + n) 0 e))) (λ e. e) (cases_Bool (1 + n == 0))
+      where
+        no : (m : ℕ) → 1 + m ≡ 0 → ⊥
+        no m e = omega (arith, e)
 
 -- one more text
 pub count-more : (text : Text) (texts : List Text) (n : ℕ) (next : Text) → n < length texts → next ≡ get_or texts n next → count_of text (take (n + 1) texts) ≡ count_of text (take n texts) + cond (bytes_eq text next) 1 0

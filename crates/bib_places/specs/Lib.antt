@@ -1,4 +1,5 @@
 pub mod PlacesSeen
+pub mod OwnedLabels
 pub mod ConflictsSeen
 pub mod LabelCodes
 pub mod Tallies

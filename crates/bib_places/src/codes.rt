@@ -37,7 +37,7 @@ fn lower_after(alloc: Global, first: u8, text: &[u8]) -> Result<Text, AllocError
 }
 
 /// The code of a label.
-fn code_of(alloc: Global, label: Label<'_>) -> Result<Text, AllocError>
+pub(crate) fn code_of(alloc: Global, label: Label<'_>) -> Result<Text, AllocError>
     ensures { IfOk result (λ code. code ≡ code_of (label_seen label.entry)) }
 {
     match label {
@@ -112,7 +112,7 @@ pub(crate) fn codes_left(
     ensures { IfOk result (λ codes. (ro rt : Reading) (uo ut : List Spaced) → AreUnits ro ours.now uo → AreUnits rt theirs.now ut
         → codes.items ≡ map code_of (labels_left (map (λ s. s.unit) uo) (map (λ s. s.unit) ut) (map (place_seen (map (λ s. s.unit) uo) (map (λ s. s.unit) ut)) places.now))) }
 {
-    let mut codes = Vec::new(alloc);
+    let mut codes = Vec::with_capacity(alloc, places.len())?;
     'places: for k in 0..places.len() {
         let place = &places[k];
         let o = unit_at(ours, place.ours);

@@ -12,6 +12,7 @@ ghost use Rattle.bib_fields.specs.PartsSeen.{part_seen};
 ghost use Rattle.bib_places.specs.PlacesSeen.{MaySee, IsSide, outcome_seen, place_seen};
 ghost use Rattle.bib_places.specs.ConflictsSeen.{change_seen, conflict_seen};
 
+use crate::owned_label::OwnedLabel;
 use crate::place::{Outcome, Place};
 use crate::side::unit_at;
 use bib_fields::{ChangedPart, parts_in_conflict};
@@ -33,11 +34,11 @@ pub enum Change {
     RemovedByTheirs,
 }
 
-/// A conflict over the unit with this label, which is a slice of a file.
+/// A conflict over the unit with this label.
 #[derive(Debug, Drop)]
-pub struct Conflict<'a> {
+pub struct Conflict {
     pub change: Change,
-    pub label: Label<'a>,
+    pub label: OwnedLabel,
 }
 
 /// The label of our form of a unit, or of theirs if we took it away.
@@ -111,16 +112,16 @@ fn change_of<L: ItemList>(
 }
 
 /// The conflict over a unit, if both versions of it stay.
-fn conflict_over<'a, L: ItemList>(
+fn conflict_over<L: ItemList>(
     alloc: Global,
     base: &Database<L>,
-    b: Option<UnitView<'a>>,
+    b: Option<UnitView<'_>>,
     ours: &Database<L>,
-    o: Option<UnitView<'a>>,
+    o: Option<UnitView<'_>>,
     theirs: &Database<L>,
-    t: Option<UnitView<'a>>,
+    t: Option<UnitView<'_>>,
     outcome: Outcome<'_>,
-) -> Result<Option<Conflict<'a>>, AllocError>
+) -> Result<Option<Conflict>, AllocError>
     ensures { IfOk result (λ conflict. OfReading base.now (λ rb. OfReading ours.now (λ ro. OfReading theirs.now (λ rt. (ub uo ut : Option Unit)
         → MaySee rb b.entry ub → MaySee ro o.entry uo → MaySee rt t.entry ut
         → option_to_list (option_map conflict_seen conflict) ≡ conflict_over ub uo ut (outcome_seen uo ut outcome.entry))))) }
@@ -128,21 +129,16 @@ fn conflict_over<'a, L: ItemList>(
     match outcome {
         Outcome::Both => {
             let change = change_of(alloc, base, b, ours, o, theirs, t)?;
-            Ok(Some(Conflict {
-                change,
-                label: label_of_either(o, t),
-            }))
+            let label = OwnedLabel::of(alloc, label_of_either(o, t))?;
+            Ok(Some(Conflict { change, label }))
         }
         Outcome::Ours | Outcome::Theirs | Outcome::Mixed(_) | Outcome::Gone => Ok(None),
     }
 }
 
 /// Adds the conflict, if there is one.
-fn add<'a>(
-    conflicts: &mut Vec<Conflict<'a>>,
-    conflict: Option<Conflict<'a>>,
-) -> Result<(), AllocError>
-    ensures { OnOk result (conflicts.new.items ≡ conflicts.old.items ++ option_to_list conflict.entry) }
+fn add(conflicts: &mut Vec<Conflict>, conflict: Option<Conflict>) -> Result<(), AllocError>
+    ensures { OnOk result (conflicts.new.items ≡ conflicts.old.items ++ option_to_list conflict) }
 {
     if let Some(conflict) = conflict {
         conflicts.push(conflict)?;
@@ -152,16 +148,16 @@ fn add<'a>(
 
 /// The conflicts of a merge of these places, in their order, given three open files and their units. It takes time in the number of
 /// places, and time and memory for each conflict, in the lengths of the three versions.
-pub fn conflicts_of<'a, L: ItemList>(
+pub fn conflicts_of<L: ItemList>(
     alloc: Global,
     base: &Database<L>,
-    base_units: &[UnitView<'a>],
+    base_units: &[UnitView<'_>],
     ours: &Database<L>,
-    our_units: &[UnitView<'a>],
+    our_units: &[UnitView<'_>],
     theirs: &Database<L>,
-    their_units: &[UnitView<'a>],
+    their_units: &[UnitView<'_>],
     places: &[Place<'_>],
-) -> Result<Vec<Conflict<'a>>, AllocError>
+) -> Result<Vec<Conflict>, AllocError>
     ensures { IfOk result (λ conflicts. (rb ro rt : Reading) → IsSide rb base.now base_units.now → IsSide ro ours.now our_units.now → IsSide rt theirs.now their_units.now
         → map conflict_seen conflicts.items ≡ conflicts_of (units_of rb) (units_of ro) (units_of rt) (map (place_seen (units_of ro) (units_of rt)) places.now)) }
 {

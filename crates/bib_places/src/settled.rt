@@ -1,19 +1,22 @@
 //! Whether the units that meet at a place may become what becomes of them.
 
-ghost use Rattle.std.specs.Prelude.{◌≡◌, ◌&&◌, true, Option, IfOk};
+ghost use Rattle.std.specs.Prelude.{◌≡◌, ◌&&◌, true, List, Option, IfOk};
 ghost use Rattle.std.specs.List.{list_all};
 ghost use Rattle.bib_spec.specs.Text.{is_space};
 ghost use Rattle.bib_spec.specs.Reading.{Reading};
 ghost use Rattle.bib_store.specs.Readings.{OfReading};
-ghost use Rattle.merge_spec.specs.Units.{Unit, units_of};
-ghost use Rattle.merge_spec.specs.ThreeWay.{Ours as OursBecomes, Theirs as TheirsBecomes, Gone as GoneBecomes, Both as BothBecomes, entry_of, may_become};
-ghost use Rattle.merge_spec.specs.Merged.{share_label, is_settled};
+ghost use Rattle.merge_spec.specs.Units.{Unit, Label, units_of};
+ghost use Rattle.merge_spec.specs.ThreeWay.{Ours as OursBecomes, Theirs as TheirsBecomes, Gone as GoneBecomes, Both as BothBecomes, entry_of, are_both, may_become};
+ghost use Rattle.merge_spec.specs.Merged.{share_label, may_come, is_settled};
 ghost use Rattle.bib_places.specs.PlacesSeen.{MaySee, IsSide, outcome_seen, place_seen};
+ghost use Rattle.bib_places.specs.Tallies.{CountsLabels};
 ghost use Rattle.bib_fields.specs.MixSeen.{Mixes};
 
 use crate::becoming::{is_left, is_unchanged, share_label};
+use crate::naming::is_removed_and_named;
 use crate::place::{Outcome, Place};
 use crate::side::{Side, item_of, unit_at};
+use crate::tally::Tally;
 use bib_fields::{Mix, may_mix};
 use bib_store::{Database, ItemList};
 use bib_text::is_space;
@@ -156,6 +159,36 @@ fn may_become<L: ItemList>(
     }
 }
 
+/// Whether both versions stay.
+fn are_both(outcome: Outcome<'_>) -> bool
+    ensures { (o t : Option Unit) → result ≡ are_both (outcome_seen o t outcome.entry) }
+{
+    match outcome {
+        Outcome::Both => true,
+        Outcome::Ours | Outcome::Theirs | Outcome::Mixed(_) | Outcome::Gone => false,
+    }
+}
+
+/// Whether this may come of the units, where the sides gave units the labels that were counted.
+fn may_come<L: ItemList>(
+    alloc: Global,
+    given: &Tally<'_>,
+    base: &Database<L>,
+    ours: &Database<L>,
+    theirs: &Database<L>,
+    met: Met<'_>,
+    outcome: Outcome<'_>,
+) -> Result<bool, AllocError>
+    ensures { IfOk result (λ may. may ≡ true → OfReading base.now (λ rb. OfReading ours.now (λ ro. OfReading theirs.now (λ rt. (labels : List Label) → CountsLabels given.now.counts labels → (b o t : Option Unit)
+        → MaySee rb met.entry.base b → MaySee ro met.entry.ours o → MaySee rt met.entry.theirs t → may_come labels b o t (outcome_seen o t outcome.entry) ≡ true)))) }
+{
+    if is_removed_and_named(alloc, given, met)? {
+        return Ok(are_both(outcome));
+    }
+    let may = may_become(alloc, base, ours, theirs, met, outcome)?;
+    Ok(may)
+}
+
 /// Whether the units have one label.
 fn have_one_label(met: Met<'_>) -> bool
     ensures { (rb ro rt : Reading) (b o t : Option Unit) → MaySee rb met.entry.base b → MaySee ro met.entry.ours o → MaySee rt met.entry.theirs t
@@ -173,16 +206,18 @@ fn is_white(text: &[u8]) -> bool
     text.iter().all(|byte| is_space(*byte))
 }
 
-/// Whether the units of a place have one label and may become what becomes of them, and only white space follows.
+/// Whether the units of a place have one label and may become what becomes of them, where the sides gave units the labels that were
+/// counted, and only white space follows.
 pub(crate) fn is_settled<L: ItemList>(
     alloc: Global,
+    given: &Tally<'_>,
     base: &Side<'_, L>,
     ours: &Side<'_, L>,
     theirs: &Side<'_, L>,
     place: &Place<'_>,
 ) -> Result<bool, AllocError>
     ensures { IfOk result (λ settled. settled ≡ true → (rb ro rt : Reading) → IsSide rb base.now.db.now base.now.units.now → IsSide ro ours.now.db.now ours.now.units.now
-        → IsSide rt theirs.now.db.now theirs.now.units.now → is_settled (units_of rb) (units_of ro) (units_of rt) (place_seen (units_of ro) (units_of rt) place.now) ≡ true) }
+        → IsSide rt theirs.now.db.now theirs.now.units.now → (labels : List Label) → CountsLabels given.now.counts labels → is_settled labels (units_of rb) (units_of ro) (units_of rt) (place_seen (units_of ro) (units_of rt) place.now) ≡ true) }
 {
     let met = Met {
         base: unit_at(base.units, place.base),
@@ -195,6 +230,14 @@ pub(crate) fn is_settled<L: ItemList>(
     if !is_white(place.space) {
         return Ok(false);
     }
-    let may = may_become(alloc, base.db, ours.db, theirs.db, met, place.outcome)?;
+    let may = may_come(
+        alloc,
+        given,
+        base.db,
+        ours.db,
+        theirs.db,
+        met,
+        place.outcome,
+    )?;
     Ok(may)
 }

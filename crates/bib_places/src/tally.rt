@@ -15,13 +15,12 @@ pub(crate) struct Tally<'a> {
 }
 
 impl<'a> Tally<'a> {
-    /// No text was counted.
-    fn none(alloc: Global) -> Self
-        ensures { (text : List ℕ) → times result.counts text ≡ 0 }
+    /// No text was counted; there is room for this many.
+    fn none(alloc: Global, count: usize) -> Result<Self, AllocError>
+        ensures { IfOk result (λ tally. (text : List ℕ) → times tally.counts text ≡ 0) }
     {
-        Tally {
-            counts: HashMap::new(alloc),
-        }
+        let counts = HashMap::with_capacity(alloc, count)?;
+        Ok(Tally { counts })
     }
 
     /// How often the text was counted.
@@ -48,7 +47,7 @@ impl<'a> Tally<'a> {
     pub fn of(alloc: Global, texts: &'a [Text]) -> Result<Self, AllocError>
         ensures { IfOk result (λ tally. (text : List ℕ) → times tally.counts text ≡ count_of text texts.now) }
     {
-        let mut tally = Tally::none(alloc);
+        let mut tally = Tally::none(alloc, texts.len())?;
         for text in texts {
             tally.add(text.as_slice())?;
         }

@@ -14,7 +14,7 @@ use Rattle.bib_data.specs.declared.label.Label.{Label}
 use Rattle.bib_data.specs.declared.request.Request.{Request}
 use Rattle.bib_data.specs.declared.request.Request.TheVariants as request
 use Rattle.history_spec.specs.Steps.{label_of}
-use Rattle.bib_script.specs.Script.{position_of, fields_of, new_entry, set_of, drop_of, adding, add_of, remove_of, moving, move_of, set_type_of, rename_key_of, rename_macro_of, inline_of, introduce_of, depth_of, regenerate_of, renaming_of, edit_of, edit_asked, group_of, end_of, request_of}
+use Rattle.bib_script.specs.Script.{position_of, fields_of, new_entry, set_of, drop_of, adding, add_of, remove_of, moving, move_of, set_type_of, rename_key_of, rename_field_of, rename_macro_of, inline_of, introduce_of, undefine_of, depth_of, regenerate_of, renaming_of, edit_of, edit_asked, group_of, end_of, request_of}
 use Rattle.bib_script.specs.Words.{step_of}
 
 -- the edit, if there is one, has a depth of 1 to 8, or none
@@ -57,6 +57,13 @@ rename_key-fits (a ∷ []) = tt
 rename_key-fits (a ∷ b ∷ []) = tt
 rename_key-fits (a ∷ b ∷ c ∷ words) = tt
 
+rename_field-fits : (words : List Text) → Fits (rename_field_of words)
+rename_field-fits [] = tt
+rename_field-fits (a ∷ []) = tt
+rename_field-fits (a ∷ b ∷ []) = tt
+rename_field-fits (a ∷ b ∷ c ∷ []) = tt
+rename_field-fits (a ∷ b ∷ c ∷ d ∷ words) = tt
+
 rename_macro-fits : (words : List Text) → Fits (rename_macro_of words)
 rename_macro-fits [] = tt
 rename_macro-fits (a ∷ []) = tt
@@ -73,6 +80,11 @@ introduce-fits [] = tt
 introduce-fits (a ∷ []) = tt
 introduce-fits (a ∷ b ∷ []) = tt
 introduce-fits (a ∷ b ∷ c ∷ words) = tt
+
+undefine-fits : (words : List Text) → Fits (undefine_of words)
+undefine-fits [] = tt
+undefine-fits (a ∷ []) = tt
+undefine-fits (a ∷ b ∷ words) = tt
 
 -- a digit says such a depth
 digit-fits : (word : Text) → IfSome (depth_of word) IsDepth
@@ -100,10 +112,12 @@ regenerate-fits (a ∷ b ∷ words) = tt
 renaming-fits : (verb : Text) (words : List Text) → Fits (renaming_of verb words)
 renaming-fits verb words =
     either (bytes_eq verb (codes "rename-key")) _ _ (rename_key-fits words)
+    (either (bytes_eq verb (codes "rename-field")) _ _ (rename_field-fits words)
     (either (bytes_eq verb (codes "rename-macro")) _ _ (rename_macro-fits words)
     (either (bytes_eq verb (codes "inline")) _ _ (inline-fits words)
     (either (bytes_eq verb (codes "introduce")) _ _ (introduce-fits words)
-    (either (bytes_eq verb (codes "regenerate")) _ _ (regenerate-fits words) tt))))
+    (either (bytes_eq verb (codes "undefine")) _ _ (undefine-fits words)
+    (either (bytes_eq verb (codes "regenerate")) _ _ (regenerate-fits words) tt))))))
 
 edit-fits : (verb : Text) (words : List Text) → Fits (edit_of verb words)
 edit-fits verb words =

@@ -8,7 +8,7 @@ use Rattle.bib_spec.specs.Texts.{is_empty}
 use Rattle.bib_spec.specs.Records.{default_depth}
 use Rattle.history_spec.specs.Steps.{label_of}
 use Rattle.bib_data.specs.declared.edit.Edit.{Edit}
-use Rattle.bib_data.specs.declared.edit.Edit.TheVariants.{SetField, DropField, AddEntry, RemoveEntry, MoveEntry, RenameKey, RenameMacro, InlineMacro, IntroduceMacro, RegenerateKeys, SetType}
+use Rattle.bib_data.specs.declared.edit.Edit.TheVariants.{SetField, DropField, AddEntry, RemoveEntry, MoveEntry, RenameKey, RenameMacro, InlineMacro, IntroduceMacro, RegenerateKeys, SetType, UndefineMacro, RenameField}
 use Rattle.bib_data.specs.declared.edit.NewEntry.{NewEntry}
 use Rattle.bib_data.specs.declared.position.Position.{Position}
 use Rattle.bib_data.specs.declared.position.Position.TheVariants.{Number, End, Before, After}
@@ -98,6 +98,12 @@ abbrev pub rename_key_of : List Text → Option Edit
 rename_key_of (from ∷ to ∷ []) = Some (RenameKey from to)
 rename_key_of _ = None
 
+-- `rename-field OLD NEW [KEY]`
+abbrev pub rename_field_of : List Text → Option Edit
+rename_field_of (from ∷ to ∷ []) = Some (RenameField from to None)
+rename_field_of (from ∷ to ∷ key ∷ []) = Some (RenameField from to (Some key))
+rename_field_of _ = None
+
 -- `rename-macro FROM TO`
 abbrev pub rename_macro_of : List Text → Option Edit
 rename_macro_of (from ∷ to ∷ []) = Some (RenameMacro from to)
@@ -112,6 +118,11 @@ inline_of _ = None
 abbrev pub introduce_of : List Text → Option Edit
 introduce_of (name ∷ text ∷ []) = Some (IntroduceMacro name text)
 introduce_of _ = None
+
+-- `undefine NAME`
+abbrev pub undefine_of : List Text → Option Edit
+undefine_of (name ∷ []) = Some (UndefineMacro name)
+undefine_of _ = None
 
 -- the depth that one digit from 1 to 8 says
 abbrev pub depth_of : Text → Option ℕ
@@ -128,9 +139,11 @@ regenerate_of _ = None
 abbrev pub renaming_of : Text → List Text → Option Edit
 renaming_of verb words =
     if bytes_eq verb (codes "rename-key") then rename_key_of words
+    else if bytes_eq verb (codes "rename-field") then rename_field_of words
     else if bytes_eq verb (codes "rename-macro") then rename_macro_of words
     else if bytes_eq verb (codes "inline") then inline_of words
     else if bytes_eq verb (codes "introduce") then introduce_of words
+    else if bytes_eq verb (codes "undefine") then undefine_of words
     else if bytes_eq verb (codes "regenerate") then regenerate_of words
     else None
 

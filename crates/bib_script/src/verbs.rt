@@ -2,7 +2,7 @@
 
 ghost use Rattle.std.specs.Prelude.{◌≡◌, bytes_eq, map, option_map, IfOk};
 ghost use Rattle.bib_data.specs.declared.request.Request.TheVariants as request;
-ghost use Rattle.bib_script.specs.Script.{fields_of, new_entry, set_of, drop_of, adding, add_of, remove_of, moving, move_of, position_of, set_type_of, rename_key_of, rename_macro_of, inline_of, introduce_of, depth_of, regenerate_of, renaming_of, edit_of, edit_asked, group_of, end_of, request_of};
+ghost use Rattle.bib_script.specs.Script.{fields_of, new_entry, set_of, drop_of, adding, add_of, remove_of, moving, move_of, position_of, set_type_of, rename_key_of, rename_field_of, rename_macro_of, inline_of, introduce_of, undefine_of, depth_of, regenerate_of, renaming_of, edit_of, edit_asked, group_of, end_of, request_of};
 
 use crate::fields::fields_of;
 use crate::positions::read_position;
@@ -160,6 +160,25 @@ fn rename_key_of(alloc: Global, words: &[&[u8]]) -> Result<Option<Edit>, AllocEr
     }))
 }
 
+/// `rename-field OLD NEW [KEY]`
+fn rename_field_of(alloc: Global, words: &[&[u8]]) -> Result<Option<Edit>, AllocError>
+    ensures { IfOk result (λ edit. edit ≡ rename_field_of (map (λ w. w.now) words.now)) }
+{
+    match words {
+        [from, to] => Ok(Some(Edit::RenameField {
+            from: copied(alloc, from)?,
+            to: copied(alloc, to)?,
+            key: None,
+        })),
+        [from, to, key] => Ok(Some(Edit::RenameField {
+            from: copied(alloc, from)?,
+            to: copied(alloc, to)?,
+            key: Some(copied(alloc, key)?),
+        })),
+        _ => Ok(None),
+    }
+}
+
 /// `rename-macro FROM TO`
 fn rename_macro_of(alloc: Global, words: &[&[u8]]) -> Result<Option<Edit>, AllocError>
     ensures { IfOk result (λ edit. edit ≡ rename_macro_of (map (λ w. w.now) words.now)) }
@@ -198,6 +217,18 @@ fn introduce_of(alloc: Global, words: &[&[u8]]) -> Result<Option<Edit>, AllocErr
     }))
 }
 
+/// `undefine NAME`
+fn undefine_of(alloc: Global, words: &[&[u8]]) -> Result<Option<Edit>, AllocError>
+    ensures { IfOk result (λ edit. edit ≡ undefine_of (map (λ w. w.now) words.now)) }
+{
+    let [name] = words else {
+        return Ok(None);
+    };
+    Ok(Some(Edit::UndefineMacro {
+        name: copied(alloc, name)?,
+    }))
+}
+
 /// The depth that one digit from 1 to 8 says.
 fn depth_of(word: &[u8]) -> Option<u8>
     ensures { result ≡ depth_of word.now }
@@ -230,12 +261,16 @@ fn renaming_of(alloc: Global, verb: &[u8], words: &[&[u8]]) -> Result<Option<Edi
 {
     if is(verb, b"rename-key") {
         rename_key_of(alloc, words)
+    } else if is(verb, b"rename-field") {
+        rename_field_of(alloc, words)
     } else if is(verb, b"rename-macro") {
         rename_macro_of(alloc, words)
     } else if is(verb, b"inline") {
         inline_of(alloc, words)
     } else if is(verb, b"introduce") {
         introduce_of(alloc, words)
+    } else if is(verb, b"undefine") {
+        undefine_of(alloc, words)
     } else if is(verb, b"regenerate") {
         Ok(regenerate_of(words))
     } else {

@@ -30,7 +30,7 @@ pub fn units_of<'a, L: ItemList>(
     ensures units { IfOk result (λ found. OfReading file.now (λ r. AreUnits r found.units.items (spaced_of r))) }
 {
     db.opens();
-    let mut units = Vec::new(alloc);
+    let mut units = Vec::with_capacity(alloc, db.item_count())?;
     let (front, items) = file.split_at(db.front().len());
     let (space, _) = split_front(front);
     add_text(&mut units, front)?;

@@ -1,18 +1,18 @@
 -- The chunks of an edit have the file as their old text, and the file of the new database as their new text.
 use Rattle.edit_spec.proofs.Words.{◌≡◌, ℕ, zero, suc, Bool, true, false, List, ◌∷◌, ◌++◌, Option, Some, None, option_and_then, unwrap_or, refl, sym, ◌∙◌, ap, ap₂, subst, append_assoc, append-nil, take, drop, insert, map, find, slice_get, ⊎_elim, option_map_or, flat_map, cases_Bool, cond-true}
 use Rattle.edit_spec.proofs.Words.{cond-false, flat_map-append, Text, same, Value, Row, Entry, Tree, CommentTree, DefinitionTree, PreambleTree, EntryTree, value_bytes, row_bytes, tree_bytes, Item, Reading, item_bytes, bytes_of, row_start, EntryTexts, Record, entries_of, crossref, entry_named}
-use Rattle.edit_spec.proofs.Words.{target, Chunk, Kept, Replaced, applied, new_keys, holds, any_part, NewEntry, Edit, SetField, DropField, AddEntry, RemoveEntry, MoveEntry, RenameKey, RenameMacro, InlineMacro, IntroduceMacro, RegenerateKeys, AddMany, SetType, leaving, defines, is_entry, from_first}
+use Rattle.edit_spec.proofs.Words.{target, Chunk, Kept, Replaced, applied, changed, new_keys, holds, any_part, NewEntry, Edit, SetField, DropField, AddEntry, RemoveEntry, MoveEntry, RenameKey, RenameMacro, InlineMacro, IntroduceMacro, RegenerateKeys, AddMany, SetType, UndefineMacro, RenameField, leaving, defines, is_entry, from_first}
 use Rattle.edit_spec.proofs.Words.{with_first_tree, without_first, with_item, items_with, new_row, row_to, row_before, with_field, without_field, of_entry, item_of, in_line, in_braces, with_value, with_crossref, next_number, tree_with_keys, items_with_keys, key_for, name_renamed, use_renamed}
 use Rattle.edit_spec.proofs.Words.{use_inlined, uses_inlined, text_of_macro, definition_of, part_introduced, introduced, edited, token, entry_chunks, items_chunks, kept_items, kept_rows, pieces_of, option_cases}
 use Rattle.std.proofs.Common.{[], take-append-drop, scan}
 use Rattle.std.specs.List.{concat}
 use Rattle.bib_spec.specs.Pieces.{Fit}
-use Rattle.bib_spec.specs.Bytes.{at_sign}
+use Rattle.bib_spec.specs.Bytes.{at_sign, comma, equals_sign}
 use Rattle.bib_spec.specs.Tree.{open_byte, after_key_bytes, entry_bytes}
-use Rattle.edit_spec.specs.Edits.{entry_with_rows, entry_with_type}
-use Rattle.edit_spec.specs.EditChunks.{kept_item, body_and_rest, chunks_from_first, without_body, entry_body, entry_as, value_replaced, field_set, field_dropped, type_replaced, crossref_chunks, tree_key_chunks, item_key_chunks, groups_without, inserted, moved, appended, changed_items, chunks}
+use Rattle.edit_spec.specs.Edits.{entry_with_rows, entry_with_type, row_renamed, entry_renamed, item_changed}
+use Rattle.edit_spec.specs.EditChunks.{kept_item, after_name, row_name_chunks, names_replaced, each_entry_as, body_and_rest, chunks_from_first, without_body, entry_body, entry_as, value_replaced, field_set, field_dropped, type_replaced, crossref_chunks, tree_key_chunks, item_key_chunks, groups_without, inserted, moved, appended, changed_items, chunks}
 use Rattle.edit_spec.specs.Laws.{chunks_are_files, pieces_lead_to_edited}
-use Rattle.edit_spec.proofs.TreeChunks.{chunk_text, read, old-read, new-read, read-append, token_old, token_new, row-parts, last-read, entry-read, items-old, items-new, rows-kept, items-kept}
+use Rattle.edit_spec.proofs.TreeChunks.{chunk_text, assignment_regroup, last-read, read, old-read, new-read, read-append, token_old, token_new, row-parts, last-read, entry-read, items-old, items-new, rows-kept, items-kept}
 use Rattle.bib_spec.proofs.Chunks.{chunks-fit, chunks-lead}
 
 abbrev items_bytes : List Item → Text
@@ -185,6 +185,17 @@ module _ (entry_become : Entry → Entry) (entry_chunked : Entry → List Chunk)
     became_new key items = first_new (is_entry key) (entry_as entry_chunked) (with_first_tree (of_entry entry_become))
         (λ item items. rest-read true (entry_body entry_chunked item.tree) item items (tree_bytes (of_entry entry_become item.tree)) (body_new item.tree)) items
 
+    -- and so for every entry
+    each_old : (items : List Item) → read false (flat_map (each_entry_as entry_chunked) items) ≡ items_bytes items
+    each_old [] = refl
+    each_old (item ∷ items) = read-append false (each_entry_as entry_chunked item) (flat_map (each_entry_as entry_chunked) items)
+        ∙ ap₂ ◌++◌ (last-read false (entry_body entry_chunked item.tree) item.trail (tree_bytes item.tree) (body_old item.tree)) (each_old items)
+
+    each_new : (items : List Item) → read true (flat_map (each_entry_as entry_chunked) items) ≡ items_bytes (map (item_changed entry_become) items)
+    each_new [] = refl
+    each_new (item ∷ items) = read-append true (each_entry_as entry_chunked item) (flat_map (each_entry_as entry_chunked) items)
+        ∙ ap₂ ◌++◌ (last-read true (entry_body entry_chunked item.tree) item.trail (tree_bytes (of_entry entry_become item.tree)) (body_new item.tree)) (each_new items)
+
 -- an entry with other rows
 module _ (become : Entry → Text × List Row) (body : Entry → List Chunk)
     (old : (e : Entry) → read false (body e) ≡ e.space_after_key ++ rows_bytes e.rows) (new : (e : Entry) → read true (body e) ≡ spaced_rows (become e))
@@ -206,6 +217,33 @@ module _ (become : Entry → Text × List Row) (body : Entry → List Chunk)
 
     entry_new : (key : Text) (items : List Item) → read true (chunks_from_first (is_entry key) (entry_as rows_chunked) items) ≡ items_bytes (from_first (is_entry key) (with_first_tree (of_entry rows_become)) items)
     entry_new key items = became_new rows_become rows_chunked rows_old rows_new key items
+
+-- ---- names of fields
+
+module _ (from to : Text) where
+  name-read : (b : Bool) (row : Row) (now : Text) → chunk_text b (token row.assignment.name (name_renamed from to row.assignment.name)) ≡ now →
+      read b (row_name_chunks from to row) ≡ row_bytes (record row { assignment = record row.assignment { name = now } })
+  name-read b row now is =
+      ap₂ (λ x y. (comma ∷ row.space_before_name) ++ (x ++ y)) is (append-nil (after_name row))
+      ∙ ap (λ t. (comma ∷ row.space_before_name) ++ t)
+      (assignment_regroup now row.assignment.space_before_equals (equals_sign ∷ row.assignment.space_before_value) (value_bytes row.assignment.value) row.assignment.space_after)
+
+  names_old : (rows : List Row) → read false (flat_map (row_name_chunks from to) rows) ≡ rows_bytes rows
+  names_old [] = refl
+  names_old (row ∷ rows) = read-append false (row_name_chunks from to row) (flat_map (row_name_chunks from to) rows)
+      ∙ ap₂ ◌++◌ (name-read false row row.assignment.name (token_old row.assignment.name (name_renamed from to row.assignment.name))) (names_old rows)
+
+  names_new : (rows : List Row) → read true (flat_map (row_name_chunks from to) rows) ≡ rows_bytes (map (row_renamed from to) rows)
+  names_new [] = refl
+  names_new (row ∷ rows) = read-append true (row_name_chunks from to row) (flat_map (row_name_chunks from to) rows)
+      ∙ ap₂ ◌++◌ (name-read true row (changed (name_renamed from to) row.assignment.name) (token_new row.assignment.name (name_renamed from to row.assignment.name))) (names_new rows)
+
+  renamed_old : (e : Entry) → read false (names_replaced from to e) ≡ entry_bytes e
+  renamed_old e = entry-read false (Kept e.key) (Kept e.space_after_key ∷ flat_map (row_name_chunks from to) e.rows) e e.key e.space_after_key e.rows refl (ap (λ t. e.space_after_key ++ t) (names_old e.rows))
+
+  renamed_new : (e : Entry) → read true (names_replaced from to e) ≡ entry_bytes (entry_renamed from to e)
+  renamed_new e =
+      entry-read true (Kept e.key) (Kept e.space_after_key ∷ flat_map (row_name_chunks from to) e.rows) e e.key e.space_after_key (map (row_renamed from to) e.rows) refl (ap (λ t. e.space_after_key ++ t) (names_new e.rows))
 
 -- ---- types
 
@@ -467,6 +505,9 @@ module _ (key_base : Record → Text) (db : Reading) where
   items_old (AddMany news) =
       read-append false (kept_items db.items) (appended news) ∙ ap₂ ◌++◌ (items-kept false db.items) (appended_old news) ∙ append-nil (items_bytes db.items)
   items_old (SetType key kind_name) = became_old (entry_with_type kind_name) (type_replaced kind_name) (type_old kind_name) (type_new kind_name) key db.items
+  items_old (UndefineMacro name) = first_old (defines name) without_body (removed_old (defines name)) db.items
+  items_old (RenameField from to None) = each_old (entry_renamed from to) (names_replaced from to) (renamed_old from to) (renamed_new from to) db.items
+  items_old (RenameField from to (Some key)) = became_old (entry_renamed from to) (names_replaced from to) (renamed_old from to) (renamed_new from to) key db.items
 
   file_new : (e : Edit) → db.front ++ read true (changed_items key_base db e) ≡ bytes_of (edited key_base db e)
   file_new (SetField key name value) = ap (λ t. db.front ++ t)
@@ -495,6 +536,9 @@ module _ (key_base : Record → Text) (db : Reading) where
   file_new (AddMany news) = ap (λ t. db.front ++ t)
       (read-append true (kept_items db.items) (appended news) ∙ ap₂ ◌++◌ (items-kept true db.items) (appended_new news) ∙ sym (items-append db.items (map item_of news)))
   file_new (SetType key kind_name) = ap (λ t. db.front ++ t) (became_new (entry_with_type kind_name) (type_replaced kind_name) (type_old kind_name) (type_new kind_name) key db.items)
+  file_new (UndefineMacro name) = removed_new (defines name) db.front db.items
+  file_new (RenameField from to None) = ap (λ t. db.front ++ t) (each_new (entry_renamed from to) (names_replaced from to) (renamed_old from to) (renamed_new from to) db.items)
+  file_new (RenameField from to (Some key)) = ap (λ t. db.front ++ t) (became_new (entry_renamed from to) (names_replaced from to) (renamed_old from to) (renamed_new from to) key db.items)
 
 pub chunks-are-files : chunks_are_files
 chunks-are-files key_base db e = (

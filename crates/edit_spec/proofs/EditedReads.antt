@@ -1,5 +1,5 @@
 -- What every accepted edit makes is a reading of its bytes, and its file can be opened.
-use Rattle.edit_spec.proofs.Words.{◌≡◌, ◌≤◌, is_some, length, ⊎_elim, sym, ◌∙◌, ap, subst, file_limit, Text, Reads, bytes_of, too_long_at, applied, SetField, DropField, AddEntry, RemoveEntry, MoveEntry, RenameKey, RenameMacro, InlineMacro, IntroduceMacro, RegenerateKeys, AddMany, SetType, TextTooLong}
+use Rattle.edit_spec.proofs.Words.{◌≡◌, ◌≤◌, is_some, length, ⊎_elim, sym, ◌∙◌, ap, subst, file_limit, Text, Reads, bytes_of, too_long_at, applied, SetField, DropField, AddEntry, RemoveEntry, MoveEntry, RenameKey, RenameMacro, InlineMacro, IntroduceMacro, RegenerateKeys, AddMany, SetType, UndefineMacro, RenameField, TextTooLong}
 use Rattle.edit_spec.proofs.Words.{edited, pieces_of, option_cases}
 use Rattle.edit_spec.specs.EditLaws.{edited_reads, applied_opens}
 use Rattle.edit_spec.proofs.EditFiles.{pieces-lead}
@@ -7,6 +7,8 @@ use Rattle.edit_spec.proofs.Unrefuted.{edited-short}
 use Rattle.edit_spec.proofs.SetField.{set_field-reads}
 use Rattle.edit_spec.proofs.DropField.{drop_field-reads}
 use Rattle.edit_spec.proofs.SetType.{set_type-reads}
+use Rattle.edit_spec.proofs.UndefineMacro.{undefine_macro-reads}
+use Rattle.edit_spec.proofs.RenameField.{rename_field-reads}
 use Rattle.edit_spec.proofs.AddedEntries.{add_entry-reads, add_many-reads}
 use Rattle.edit_spec.proofs.MovedEntries.{remove_entry-reads, move_entry-reads}
 use Rattle.edit_spec.proofs.RekeyedEntries.{rename_key-reads}
@@ -26,6 +28,8 @@ edited-reads key_base file db (IntroduceMacro name text) base reads accepted = i
 edited-reads key_base file db (RegenerateKeys depth) base reads accepted = regenerate_keys-reads key_base file db depth base reads accepted
 edited-reads key_base file db (AddMany news) base reads accepted = add_many-reads key_base file db news reads accepted
 edited-reads key_base file db (SetType key kind_name) base reads accepted = set_type-reads key_base file db key kind_name reads accepted
+edited-reads key_base file db (UndefineMacro name) base reads accepted = undefine_macro-reads key_base file db name reads accepted
+edited-reads key_base file db (RenameField from to key) base reads accepted = rename_field-reads key_base file db from to key reads accepted
 
 pub applied-opens : applied_opens
 applied-opens key_base file db e base reads accepted =

@@ -65,7 +65,7 @@ module _ (name held : Text) where
         uncounted items (sym (count-no (λ item. defines name item.tree) item items none) ∙ h),
       )
 
-  none_beyond : (items : List Item) → count items ≡ 0 → (n : ℕ) → is_after name items n ≡ false
+  pub none_beyond : (items : List Item) → count items ≡ 0 → (n : ℕ) → is_after name items n ≡ false
   none_beyond items h zero = refl
   none_beyond [] h (suc n) = refl
   none_beyond (item ∷ items) h (suc n) =

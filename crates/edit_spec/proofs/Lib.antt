@@ -30,7 +30,12 @@ pub mod WrittenRows
 pub mod EditedItems
 pub mod SetField
 pub mod DropField
+pub mod KeptEntries
+pub mod FirstEntries
 pub mod SetType
+pub mod UndefineMacro
+pub mod RenameField
+pub mod RenamedRecords
 pub mod AddedEntries
 pub mod MovedEntries
 pub mod RekeyedEntries

@@ -1,15 +1,15 @@
 -- SetType: the entry with another type is an entry, and all that the database says of it stays, except for the type.
-use Rattle.edit_spec.proofs.Words.{◌≡◌, ◌==◌, ℕ, zero, suc, Bool, true, false, not, ◌&&◌, nat_le, List, ◌∷◌, ◌++◌, Option, Some, None, unwrap_or, option_map, option_and_then, slice_get, ⊎_elim, refl, sym, ◌∙◌, ap, ap₂, map, filter, count_by, length, list_any, option_map_or, fun_ext, eq-eqb, arith, folded, filter_map, is_none, enumerate_from, both_ways, crossref_text}
-use Rattle.edit_spec.proofs.Words.{and_parts, cases_Bool, cond-true, cond-false, All-cons, All-head, All-tail, name_limit, Text, is_type_name, Entry, Tree, CommentTree, DefinitionTree, PreambleTree, EntryTree, is_type, IsEntry, Item, Reading, bytes_of, IsItem, Reads, Macros, months, raw_text, macros_after, macros_at, gathered}
-use Rattle.edit_spec.proofs.Words.{EntryTexts, Record, RecordField, texts_of, entry_in, preamble_in, entries_of, keys_of, is_named, first_named, entry_named, target_of, target, other_than, parent, own_fields, missing, ancestors, ancestors_from, fields_at, with_inherited, record_of, expanded, listed, unknown, option_cases, SetType}
-use Rattle.edit_spec.proofs.Words.{is_entry, from_first, with_first_tree, of_entry, key_for, IsAccepted}
-use Rattle.std.proofs.Common.{[], if◌then◌else◌, eqb-true, ne_eqb}
-use Rattle.std.specs.List.{range_with_len}
+use Rattle.edit_spec.proofs.Words.{◌≡◌, ◌==◌, ℕ, Bool, true, false, List, ◌∷◌, ◌++◌, Option, Some, None, unwrap_or, option_map, slice_get, ⊎_elim, refl, sym, ◌∙◌, ap, length, option_map_or, fun_ext, folded}
+use Rattle.edit_spec.proofs.Words.{and_parts, All-cons, All-head, All-tail, name_limit, Text, is_type_name, Entry, is_type, IsEntry, Reading, bytes_of, IsItem, Reads, Macros, months}
+use Rattle.edit_spec.proofs.Words.{EntryTexts, Record, RecordField, texts_of, entries_of, keys_of, entry_named, parent, own_fields, missing, ancestors, ancestors_from, fields_at, with_inherited, record_of, expanded, listed, unknown, option_cases, SetType}
+use Rattle.edit_spec.proofs.Words.{is_entry, with_first_tree, of_entry, IsAccepted}
+use Rattle.std.proofs.Common.{[], if◌then◌else◌}
 use Rattle.bib_spec.specs.Tree.{is_no_keyword}
-use Rattle.bib_spec.specs.Records.{once, numbers_of, with_parents, cited_by_key, cites_all}
 use Rattle.edit_spec.specs.Edits.{entry_with_type, set_type}
 use Rattle.edit_spec.specs.Laws.{record_with_type, type_for, set_type_keeps}
 use Rattle.edit_spec.proofs.Unrefuted.{given_types-are}
+use Rattle.edit_spec.proofs.KeptEntries.{parent-kept, listed-kept, unknown-kept}
+use Rattle.edit_spec.proofs.FirstEntries.{is_number, first_changed, entries-changed, preambles-kept, macros-kept, entry-changed, keys-kept, length-kept}
 use Rattle.edit_spec.proofs.EditedItems.{made_reads, item_as, from_first-are, comment-of_entry, of_entry-is}
 
 -- ---- an entry of the grammar
@@ -49,144 +49,28 @@ set_type-reads key_base file db key kind_name reads accepted =
     kind : is_type kind_name ≡ true
     kind = (and_parts (is_type kind_name) true (given_types-are key_base db (SetType key kind_name) accepted)).0
 
--- ---- the entries of the items
+-- ---- the entries
 
 -- an entry's texts, with its new type if it gets one
 abbrev typed : Option Text → EntryTexts → EntryTexts
 typed o entry = record entry { kind = unwrap_or o entry.kind }
 
-module _ (key kind_name : Text) where
-  abbrev change : Entry → Entry
-  change e = entry_with_type kind_name e
-
-  abbrev typed_items : List Item → List Item
-  typed_items items = from_first (is_entry key) (with_first_tree (of_entry change)) items
-
-  -- the entries, where the first that the key names gets the type
-  abbrev first_typed : List EntryTexts → List EntryTexts
-  first_typed [] = []
-  first_typed (entry ∷ rest) = if is_named key entry.key then typed (Some kind_name) entry ∷ rest else entry ∷ first_typed rest
-
-  entries-typed : (items : List Item) (m : Macros) → gathered entry_in m (typed_items items) ≡ first_typed (gathered entry_in m items)
-  entries-typed [] m = refl
-  entries-typed (item ∷ items) m = by_tree (entries-typed items) item.tree
-    where
-      by_tree : ((m : Macros) → gathered entry_in m (typed_items items) ≡ first_typed (gathered entry_in m items)) → (tree : Tree) →
-          gathered entry_in m (if is_entry key tree then record { tree = of_entry change tree; trail = item.trail } ∷ items else record { tree = tree; trail = item.trail } ∷ typed_items items)
-          ≡ first_typed (entry_in m tree ++ gathered entry_in (macros_after m tree) items)
-      by_tree rest (CommentTree h) = rest m
-      by_tree rest (PreambleTree p) = rest m
-      by_tree rest (DefinitionTree d) = rest (macros_after m (DefinitionTree d))
-      by_tree rest (EntryTree e) = by_test (rest m) (is_named key e.key)
-        where
-          by_test : gathered entry_in m (typed_items items) ≡ first_typed (gathered entry_in m items) → (b : Bool) →
-              gathered entry_in m (if b then record { tree = EntryTree (change e); trail = item.trail } ∷ items else record { tree = EntryTree e; trail = item.trail } ∷ typed_items items)
-              ≡ (if b then typed (Some kind_name) (texts_of m e) ∷ gathered entry_in m items else texts_of m e ∷ first_typed (gathered entry_in m items))
-          by_test rest true = refl
-          by_test rest false = ap (λ entries. texts_of m e ∷ entries) rest
-
-  preambles-typed : (items : List Item) (m : Macros) → gathered preamble_in m (typed_items items) ≡ gathered preamble_in m items
-  preambles-typed [] m = refl
-  preambles-typed (item ∷ items) m = by_tree (preambles-typed items) item.tree
-    where
-      by_tree : ((m : Macros) → gathered preamble_in m (typed_items items) ≡ gathered preamble_in m items) → (tree : Tree) →
-          gathered preamble_in m (if is_entry key tree then record { tree = of_entry change tree; trail = item.trail } ∷ items else record { tree = tree; trail = item.trail } ∷ typed_items items)
-          ≡ preamble_in m tree ++ gathered preamble_in (macros_after m tree) items
-      by_tree rest (CommentTree h) = rest m
-      by_tree rest (PreambleTree p) = ap (λ preambles. raw_text m p.value ∷ preambles) (rest m)
-      by_tree rest (DefinitionTree d) = rest (macros_after m (DefinitionTree d))
-      by_tree rest (EntryTree e) = by_test (rest m) (is_named key e.key)
-        where
-          by_test : gathered preamble_in m (typed_items items) ≡ gathered preamble_in m items → (b : Bool) →
-              gathered preamble_in m (if b then record { tree = EntryTree (change e); trail = item.trail } ∷ items else record { tree = EntryTree e; trail = item.trail } ∷ typed_items items)
-              ≡ gathered preamble_in m items
-          by_test rest true = refl
-          by_test rest false = rest
-
-  macros-of_entry : (m : Macros) (tree : Tree) → macros_after m (of_entry change tree) ≡ macros_after m tree
-  macros-of_entry m (CommentTree h) = refl
-  macros-of_entry m (PreambleTree p) = refl
-  macros-of_entry m (DefinitionTree d) = refl
-  macros-of_entry m (EntryTree e) = refl
-
-  macros-typed : (items : List Item) (m : Macros) (k : ℕ) → macros_at m (typed_items items) k ≡ macros_at m items k
-  macros-typed [] m k = refl
-  macros-typed (item ∷ items) m k = by_test (macros-typed items) (is_entry key item.tree) k
-    where
-      by_test : ((m : Macros) (k : ℕ) → macros_at m (typed_items items) k ≡ macros_at m items k) → (b : Bool) (k : ℕ) →
-          macros_at m (if b then record item { tree = of_entry change item.tree } ∷ items else item ∷ typed_items items) k ≡ macros_at m (item ∷ items) k
-      by_test rest true zero = refl
-      by_test rest false zero = refl
-      by_test rest true (suc k) = ap (λ after. macros_at after items k) (macros-of_entry m item.tree)
-      by_test rest false (suc k) = rest (macros_after m item.tree) k
-
-  -- ---- each entry by its number
-
-  key_for-later : (o : Option ℕ) (n : ℕ) → key_for (option_map suc o) kind_name (suc n) ≡ key_for o kind_name n
-  key_for-later None n = refl
-  key_for-later (Some m) n = ⊎_elim
-      (λ t. let e = eqb-true m n t in
-      cond-true (suc m == suc n) (Some kind_name) None (eq-eqb (suc m) (suc n) (ap suc e)) ∙ sym (cond-true (m == n) (Some kind_name) None t))
-      (λ f. cond-false (suc m == suc n) (Some kind_name) None (ne_eqb (suc m) (suc n) (λ e. both m n f e)) ∙ sym (cond-false (m == n) (Some kind_name) None f))
-      (cases_Bool (m == n))
-    where
-      both : (m n : ℕ) → (m == n) ≡ false → suc m ≡ suc n → ⊥
-      both m n f e = both_ways (m == n) f (eq-eqb m n (omega (arith, e)))
-
-  key_for-first : (o : Option ℕ) → key_for (option_map suc o) kind_name zero ≡ None
-  key_for-first None = refl
-  key_for-first (Some m) = cond-false (suc m == zero) (Some kind_name) None (ne_eqb (suc m) zero (omega arith))
-
-  typed-none : (o : Option EntryTexts) → option_map (typed None) o ≡ o
-  typed-none None = refl
-  typed-none (Some entry) = refl
-
-  entry-typed : (entries : List EntryTexts) (n : ℕ) →
-      slice_get (first_typed entries) n ≡ option_map (typed (type_for (first_named key (keys_of entries)) kind_name n)) (slice_get entries n)
-  entry-typed [] n = refl
-  entry-typed (entry ∷ rest) n = by_test (entry-typed rest) (is_named key entry.key) n
-    where
-      by_test : ((n : ℕ) → slice_get (first_typed rest) n ≡ option_map (typed (type_for (first_named key (keys_of rest)) kind_name n)) (slice_get rest n)) → (b : Bool) (n : ℕ) →
-          slice_get (if b then typed (Some kind_name) entry ∷ rest else entry ∷ first_typed rest) n
-          ≡ option_map (typed (key_for (if b then Some zero else option_map suc (first_named key (keys_of rest))) kind_name n)) (slice_get (entry ∷ rest) n)
-      by_test later true zero = ap (λ o. Some (typed o entry)) (sym (cond-true (zero == zero) (Some kind_name) None (eq-eqb zero zero refl)))
-      by_test later true (suc n) = sym (ap (λ o. option_map (typed o) (slice_get rest n)) (cond-false (zero == suc n) (Some kind_name) None (ne_eqb zero (suc n) (omega arith)))
-          ∙ typed-none (slice_get rest n))
-      by_test later false zero = ap (λ o. Some (typed o entry)) (sym (key_for-first (first_named key (keys_of rest))))
-      by_test later false (suc n) = later n ∙ ap (λ o. option_map (typed o) (slice_get rest n)) (sym (key_for-later (first_named key (keys_of rest)) n))
-
-  keys-typed : (entries : List EntryTexts) → keys_of (first_typed entries) ≡ keys_of entries
-  keys-typed [] = refl
-  keys-typed (entry ∷ rest) = by_test (keys-typed rest) (is_named key entry.key)
-    where
-      by_test : keys_of (first_typed rest) ≡ keys_of rest → (b : Bool) → keys_of (if b then typed (Some kind_name) entry ∷ rest else entry ∷ first_typed rest) ≡ keys_of (entry ∷ rest)
-      by_test later true = refl
-      by_test later false = ap (λ keys. entry.key ∷ keys) later
-
-  length-typed : (entries : List EntryTexts) → length (first_typed entries) ≡ length entries
-  length-typed [] = refl
-  length-typed (entry ∷ rest) = by_test (length-typed rest) (is_named key entry.key)
-    where
-      by_test : length (first_typed rest) ≡ length rest → (b : Bool) → length (if b then typed (Some kind_name) entry ∷ rest else entry ∷ first_typed rest) ≡ length (entry ∷ rest)
-      by_test later true = refl
-      by_test later false = ap suc later
+-- the new type is that of the one entry
+typed-one : (kind_name : Text) (found : Option ℕ) (n : ℕ) (o : Option EntryTexts) →
+    option_map (λ entry. if is_number found n then typed (Some kind_name) entry else entry) o ≡ option_map (typed (type_for found kind_name n)) o
+typed-one kind_name found n None = refl
+typed-one kind_name None n (Some entry) = refl
+typed-one kind_name (Some m) n (Some entry) = by_test (m == n)
+  where
+    by_test : (b : Bool) → Some (if b then typed (Some kind_name) entry else entry) ≡ Some (typed (if b then Some kind_name else None) entry)
+    by_test true = refl
+    by_test false = refl
 
 -- ---- what entries say whose types alone differ
 
 module _ (kinds : ℕ → Option Text) (entries new : List EntryTexts) (keys : keys_of new ≡ keys_of entries)
     (at : (n : ℕ) → slice_get new n ≡ option_map (typed (kinds n)) (slice_get entries n))
   where
-    target-kept : (n : ℕ) → target new n ≡ target entries n
-    target-kept n = ap (option_and_then (target_of new)) (at n) ∙ ⊎_elim
-        (λ none. ap (λ o. option_and_then (target_of new) (option_map (typed (kinds n)) o)) none ∙ sym (ap (option_and_then (target_of entries)) none))
-        (λ some. ap (λ o. option_and_then (target_of new) (option_map (typed (kinds n)) o)) some.1
-        ∙ ap (λ keys. option_and_then (λ t. first_named t keys) (crossref_text some.0)) keys
-        ∙ sym (ap (option_and_then (target_of entries)) some.1))
-        (option_cases (slice_get entries n))
-
-    parent-kept : (n : ℕ) → parent new n ≡ parent entries n
-    parent-kept n = ap (option_and_then (other_than n)) (target-kept n)
-
     fields_at-kept : (n : ℕ) → fields_at new n ≡ fields_at entries n
     fields_at-kept n = ap (λ o. option_map_or own_fields o []) (at n) ∙ ⊎_elim
         (λ none. ap (λ o. option_map_or own_fields (option_map (typed (kinds n)) o) []) none ∙ sym (ap (λ o. option_map_or own_fields o []) none))
@@ -204,7 +88,7 @@ module _ (kinds : ℕ → Option Text) (entries new : List EntryTexts) (keys : k
     record-kept : (depth n : ℕ) (entry : EntryTexts) → record_of depth new n (typed (kinds n) entry) ≡ record_with_type (kinds n) (record_of depth entries n entry)
     record-kept depth n entry =
         ap (λ fields. let it : Record = record { kind_name = folded (unwrap_or (kinds n) entry.kind); key = entry.key; fields = fields } in it)
-        (ap (λ parents. with_inherited new (own_fields entry) (ancestors_from parents depth (n ∷ []) n)) (fun_ext parent-kept)
+        (ap (λ parents. with_inherited new (own_fields entry) (ancestors_from parents depth (n ∷ []) n)) (fun_ext (parent-kept (λ n. typed (kinds n)) entries new keys at (λ n entry. refl)))
         ∙ inherited-kept (own_fields entry) (ancestors entries depth n))
         ∙ with_type-record (kinds n) depth n entry
 
@@ -217,45 +101,44 @@ module _ (kinds : ℕ → Option Text) (entries new : List EntryTexts) (keys : k
         ∙ sym (ap (λ o. option_map (record_with_type (kinds n)) (option_map (record_of depth entries n) o)) some.1))
         (option_cases (slice_get entries n))
 
-    -- ---- cited lists
-
-    -- the listed entries and their parents, from each entry's parent and all numbers
-    abbrev added : (ℕ → Option ℕ) → List ℕ → ℕ → List ℕ → List ℕ
-    added parents numbers min listed =
-        listed ++ filter (λ m. not (list_any (λ n. n == m) listed) && nat_le min (count_by (λ n. option_map_or (λ p. p == m) (parents n) false) listed)) numbers
-
-    listed-kept : length new ≡ length entries → (cited : List Text) (min : ℕ) → listed new cited min ≡ listed entries cited min
-    listed-kept long cited min =
-        ap₂ (λ parents numbers. if cites_all cited then numbers else added parents numbers min (cited_by_key new cited)) (fun_ext parent-kept) (ap (range_with_len 0) long)
-        ∙ ap (λ keys. if cites_all cited then numbers_of entries else with_parents entries min (once (filter_map (λ t. first_named t keys) cited))) keys
-
-    unknown-kept : (cited : List Text) → unknown new cited ≡ unknown entries cited
-    unknown-kept cited = ap (λ keys. if cites_all cited then [] else map (λ p. p.0) (filter (λ p. is_none (first_named p.1 keys)) (enumerate_from 0 cited))) keys
-
 -- ---- the law
 
 pub set-type-keeps : set_type_keeps
 set-type-keeps key_base db key kind_name accepted = (
   record {
-    count = ap length is ∙ length-typed key kind_name (entries_of db);
-    records = λ depth n. ap (λ s. expanded depth s n) is
-        ∙ expanded-kept (type_for (entry_named (entries_of db) key) kind_name) (entries_of db) after (keys-typed key kind_name (entries_of db)) (entry-typed key kind_name (entries_of db)) depth n;
-    parents = λ n. ap (λ s. parent s n) is
-        ∙ parent-kept (type_for (entry_named (entries_of db) key) kind_name) (entries_of db) after (keys-typed key kind_name (entries_of db)) (entry-typed key kind_name (entries_of db)) n;
-    preambles = preambles-typed key kind_name db.items months;
+    count = ap length is ∙ length-kept key change become texts (entries_of db);
+    records = λ depth n. ap (λ s. expanded depth s n) is ∙ expanded-kept kinds (entries_of db) after keys at depth n;
+    parents = λ n. ap (λ s. parent s n) is ∙ parent-kept (λ n. typed (kinds n)) (entries_of db) after keys at (λ n entry. refl) n;
+    preambles = preambles-kept key change become texts db.items months;
   },
-  (λ n name. ap (λ m. m (folded name)) (macros-typed key kind_name db.items months n)),
+  (λ n name. ap (λ m. m (folded name)) (macros-kept key change become texts db.items months n)),
   record {
     cited = λ cited min. ap (λ s. listed s cited min) is
-        ∙ listed-kept (type_for (entry_named (entries_of db) key) kind_name) (entries_of db) after (keys-typed key kind_name (entries_of db)) (entry-typed key kind_name (entries_of db))
-        (length-typed key kind_name (entries_of db)) cited min;
-    unknowns = λ cited. ap (λ s. unknown s cited) is
-        ∙ unknown-kept (type_for (entry_named (entries_of db) key) kind_name) (entries_of db) after (keys-typed key kind_name (entries_of db)) (entry-typed key kind_name (entries_of db)) cited;
+        ∙ listed-kept (λ n. typed (kinds n)) (entries_of db) after keys at (λ n entry. refl) (length-kept key change become texts (entries_of db)) cited min;
+    unknowns = λ cited. ap (λ s. unknown s cited) is ∙ unknown-kept (λ n. typed (kinds n)) (entries_of db) after keys at (λ n entry. refl) cited;
   },
 )
   where
+    change : Entry → Entry
+    change e = entry_with_type kind_name e
+
+    become : EntryTexts → EntryTexts
+    become entry = typed (Some kind_name) entry
+
+    texts : (m : Macros) (e : Entry) → texts_of m (change e) ≡ become (texts_of m e)
+    texts m e = refl
+
+    kinds : ℕ → Option Text
+    kinds n = type_for (entry_named (entries_of db) key) kind_name n
+
     after : List EntryTexts
-    after = first_typed key kind_name (entries_of db)
+    after = first_changed key change become texts (entries_of db)
 
     is : entries_of (set_type key kind_name db) ≡ after
-    is = entries-typed key kind_name db.items months
+    is = entries-changed key change become texts db.items months
+
+    keys : keys_of after ≡ keys_of (entries_of db)
+    keys = keys-kept key change become texts (λ entry. refl) (entries_of db)
+
+    at : (n : ℕ) → slice_get after n ≡ option_map (typed (kinds n)) (slice_get (entries_of db) n)
+    at n = entry-changed key change become texts (entries_of db) n ∙ typed-one kind_name (entry_named (entries_of db) key) n (slice_get (entries_of db) n)

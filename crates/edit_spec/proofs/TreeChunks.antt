@@ -45,7 +45,7 @@ part_new part (Some new) = refl
 
 -- ---- regrouping
 
-assignment_regroup : (n x y v s : Text) → n ++ ((x ++ y) ++ (v ++ s)) ≡ n ++ x ++ y ++ v ++ s
+pub assignment_regroup : (n x y v s : Text) → n ++ ((x ++ y) ++ (v ++ s)) ≡ n ++ x ++ y ++ v ++ s
 assignment_regroup n x y v s = simp append_assoc
 
 preamble_regroup : (o v s c : Text) → o ++ (v ++ (s ++ c)) ≡ o ++ v ++ s ++ c

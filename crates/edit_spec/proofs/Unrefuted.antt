@@ -3,7 +3,7 @@
 use Rattle.edit_spec.proofs.Words.{◌≡◌, ℕ, ◌<◌, ◌≤◌, ◌==◌, nat_lt, nat_le, Bool, true, false, ◌&&◌, length, All, ⊎_elim, arith, list_all, cases_Bool, both_ways, and_parts, true_from_ne_false, leb-true, ltb-false, eqb-false, name_limit, file_limit, Text, is_name, is_new_key, IsBalanced}
 use Rattle.edit_spec.proofs.Words.{opened_before, closed_before, IsClean, IsCleanTrail, Part, Braced, Quoted, Digits, Macro, Link, Value, is_type, IsSpace, IsPart, IsLink, IsValue, Reading, bytes_of, Record, Edit, BadKey, BadName, BadValue, FileTooLong, HasCleanTexts, edited, IsAccepted}
 use Rattle.std.proofs.lemmas.Bool.{leb-false, ltb-true, eqb-true}
-use Rattle.edit_spec.specs.Edits.{given_keys, given_names, given_types, given_values}
+use Rattle.edit_spec.specs.Edits.{given_keys, given_names, leaves_crossref, given_types, given_values}
 
 unrefuted_true : (b : Bool) → ((b ≡ true → ⊥) → ⊥) → b ≡ true
 unrefuted_true b h = true_from_ne_false b (λ e. h (λ t. both_ways b e t))
@@ -75,8 +75,15 @@ module _ (key_base : Record → Text) (db : Reading) (e : Edit) (accepted : IsAc
   pub given_keys-are : list_all is_new_key (given_keys e) ≡ true
   given_keys-are = true_from_ne_false (list_all is_new_key (given_keys e)) (accepted BadKey)
 
+  left : (leaves_crossref e ≡ true) × ((list_all is_name (given_names e) && list_all is_type (given_types e)) ≡ true)
+  left = and_parts (leaves_crossref e) (list_all is_name (given_names e) && list_all is_type (given_types e))
+      (true_from_ne_false (leaves_crossref e && (list_all is_name (given_names e) && list_all is_type (given_types e))) (accepted BadName))
+
   named : (list_all is_name (given_names e) ≡ true) × (list_all is_type (given_types e) ≡ true)
-  named = and_parts (list_all is_name (given_names e)) (list_all is_type (given_types e)) (true_from_ne_false (list_all is_name (given_names e) && list_all is_type (given_types e)) (accepted BadName))
+  named = and_parts (list_all is_name (given_names e)) (list_all is_type (given_types e)) left.1
+
+  pub crossref-is_left : leaves_crossref e ≡ true
+  crossref-is_left = left.0
 
   pub given_names-are : list_all is_name (given_names e) ≡ true
   given_names-are = named.0

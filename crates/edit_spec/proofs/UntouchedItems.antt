@@ -3,14 +3,14 @@
 use Rattle.edit_spec.proofs.Words.{◌≡◌, ◌≢◌, ◌||◌, ◌&&◌, ◌==◌, ℕ, zero, suc, ◌+◌, ◌<◌, ◌≤◌, Bool, true, false, List, ◌∷◌, ◌++◌, Option, Some, None, is_some, unwrap_or, not, option_map, option_and_then, insert, find, map, slice_get, length, take, count_by, ⊎_elim, refl, sym, ◌∙◌, ap, ap₂, subst}
 use Rattle.edit_spec.proofs.Words.{arith, append-nil, add-zero, eq-eqb, zero-lt-suc, suc-le-suc, le_of_suc-le-suc, list_any, option_map_or, bytes_eq, and_parts, not-false, cases_Bool, cond-true, cond-false, or_parts, both_ways, none-some, same_Some, Text, same, Part, Braced, Quoted, Digits, Macro}
 use Rattle.edit_spec.proofs.Words.{Link, Value, Row, Entry, Tree, CommentTree, DefinitionTree, PreambleTree, EntryTree, Item, Reading, Macros, months, macros_after, gathered, EntryTexts, Record, entry_in, entries_of, keys_of, crossref, is_named, entry_named, target, uses, holds, any_part, SetField}
-use Rattle.edit_spec.proofs.Words.{DropField, AddEntry, RemoveEntry, MoveEntry, RenameKey, RenameMacro, InlineMacro, IntroduceMacro, RegenerateKeys, AddMany, SetType, NotFound, Ambiguous, BadPosition, IsAccepted, edited, leaving, item_with, items_with, defines, is_entry, from_first, with_first_tree}
+use Rattle.edit_spec.proofs.Words.{DropField, AddEntry, RemoveEntry, MoveEntry, RenameKey, RenameMacro, InlineMacro, IntroduceMacro, RegenerateKeys, AddMany, SetType, UndefineMacro, RenameField, NotFound, Ambiguous, BadPosition, IsAccepted, edited, leaving, item_with, items_with, defines, is_entry, from_first, with_first_tree}
 use Rattle.edit_spec.proofs.Words.{without_first, of_entry, entry_with_field, entry_without_field, in_line, item_of, with_item, remove_entry, next_number, tree_with_keys, items_with_keys, in_braces, row_to, with_value, with_crossref, key_for, name_renamed, use_renamed, use_inlined, uses_inlined}
 use Rattle.edit_spec.proofs.Words.{text_of_macro, part_introduced, introduced, holders, new_keys, is_after, is_reached, number_with_one_more, entries_before, both_true, eq-true, count-no, option_cases, there_once}
 use Rattle.std.proofs.Common.{◌-◌, [], if◌then◌else◌, eqb-true, ne_eqb}
 use Rattle.std.proofs.lemmas.List.{nil_from_length}
 use Rattle.std.proofs.lemmas.Option.{slice_get-map}
-use Rattle.edit_spec.specs.Edits.{item_with_keys, last_position, entry_with_type}
-use Rattle.edit_spec.specs.OtherLaws.{number_with_one_less, passes, number_of_first, is_first, is_any_entry, is_braced, is_in_braces, names_already, has_its_keys, is_or_refers_to, is_changed, gained, StandsAt, KeepsItems, untouched_items_stay, moved_entry_stays}
+use Rattle.edit_spec.specs.Edits.{item_with_keys, last_position, entry_with_type, row_renamed, entry_renamed}
+use Rattle.edit_spec.specs.OtherLaws.{number_with_one_less, passes, number_of_first, is_first, has_row, is_any_entry, is_braced, is_in_braces, names_already, has_its_keys, is_or_refers_to, is_changed, gained, StandsAt, KeepsItems, untouched_items_stay, moved_entry_stays}
 use Rattle.edit_spec.proofs.RenameKey.{only}
 use Rattle.edit_spec.proofs.OneMore.{slice_get-insert, slice_get-insert_same, within}
 use Rattle.edit_spec.proofs.AddedAfter.{slice_get-append}
@@ -144,6 +144,32 @@ renamed_at from to (first ∷ items) n item at = by_test (λ n at. renamed_at fr
       tree_is = λ _. ap (λ (i : Item). i.tree) is;
     }
     by_test after false (suc n) at = let rest = after n at in record { item = rest.item; at = rest.at; trail_is = rest.trail_is; tree_is = rest.tree_is }
+
+-- ---- a change of the names of fields
+
+module _ (from to : Text) where
+  row-unnamed : (row : Row) → same row.assignment.name from ≡ false → row_renamed from to row ≡ row
+  row-unnamed row h = ap (λ o. let it : Row = record row { assignment = record row.assignment { name = unwrap_or o row.assignment.name } } in it) (cond-false (same row.assignment.name from) (Some to) None h)
+
+  rows-unnamed : (rows : List Row) → list_any (λ row. same row.assignment.name from) rows ≡ false → map (row_renamed from to) rows ≡ rows
+  rows-unnamed [] h = refl
+  rows-unnamed (row ∷ rows) h =
+      let both = or_parts (same row.assignment.name from) (list_any (λ row. same row.assignment.name from) rows) h in
+      ap₂ ◌∷◌ (row-unnamed row both.0) (rows-unnamed rows both.1)
+
+  names-left : (tree : Tree) → has_row from tree ≡ false → of_entry (entry_renamed from to) tree ≡ tree
+  names-left (CommentTree h) none = refl
+  names-left (DefinitionTree d) none = refl
+  names-left (PreambleTree p) none = refl
+  names-left (EntryTree e) none = ap (λ rows. let it : Entry = record e { rows = rows } in EntryTree it) (rows-unnamed e.rows none)
+
+  abbrev with_names : Item → Item
+  with_names item = record item { tree = of_entry (entry_renamed from to) item.tree }
+
+  names_at : (items : List Item) (n : ℕ) (item : Item) → slice_get items n ≡ Some item → StandsAt (map with_names items) n (passes (has_row from) items n) item.tree item.trail
+  names_at items n item at =
+      stands (map with_names items) n (passes (has_row from) items n) item (with_names item) (slice_get-map with_names items n ∙ ap (option_map with_names) at) refl
+      (λ e. names-left item.tree (sym (passes-at (has_row from) items n item at) ∙ e))
 
 -- ---- a change of keys
 
@@ -288,11 +314,11 @@ removal-order : (test : Tree → Bool) (items : List Item) (n m : ℕ) → is_fi
     number_with_one_less (number_of_first test items) n < number_with_one_less (number_of_first test items) m
 removal-order test items n m p q h = less-order (number_of_first test items) n m (other_number (number_of_first test items) n p) (other_number (number_of_first test items) m q) h
 
-removed_item : (key : Text) (db : Reading) (n : ℕ) (item : Item) → is_first (is_entry key) db.items n ≡ false → slice_get db.items n ≡ Some item →
-    StandsAt (remove_entry key db).items (number_with_one_less (number_of_first (is_entry key) db.items) n) false item.tree (item.trail ++ gained (is_first (is_entry key) db.items) db.items (suc n))
-removed_item key db n item stays at = record {
-  item = record item { trail = item.trail ++ gained (is_first (is_entry key) db.items) db.items (suc n) };
-  at = removed_at (is_entry key) db.front db.items n item stays at;
+removed_item : (test : Tree → Bool) (db : Reading) (n : ℕ) (item : Item) → is_first test db.items n ≡ false → slice_get db.items n ≡ Some item →
+    StandsAt (without_first test db.front db.items).items (number_with_one_less (number_of_first test db.items) n) false item.tree (item.trail ++ gained (is_first test db.items) db.items (suc n))
+removed_item test db n item stays at = record {
+  item = record item { trail = item.trail ++ gained (is_first test db.items) db.items (suc n) };
+  at = removed_at test db.front db.items n item stays at;
   trail_is = refl;
   tree_is = λ _. refl;
 }
@@ -480,12 +506,12 @@ moved_entry-stays key_base db key place accepted =
 
 -- ---- all edits
 
-removal : (key : Text) (db : Reading) →
-    KeepsItems (is_first (is_entry key) db.items) (λ n. false) (number_with_one_less (number_of_first (is_entry key) db.items)) db (remove_entry key db)
-removal key db = record {
-  front = gained_front (is_entry key) db.front db.items;
-  items = λ n item stays at. removed_item key db n item stays at;
-  order = λ n m p q h _. removal-order (is_entry key) db.items n m p q h;
+removal : (test : Tree → Bool) (db : Reading) →
+    KeepsItems (is_first test db.items) (λ n. false) (number_with_one_less (number_of_first test db.items)) db (without_first test db.front db.items)
+removal test db = record {
+  front = gained_front test db.front db.items;
+  items = λ n item stays at. removed_item test db n item stays at;
+  order = λ n m p q h _. removal-order test db.items n m p q h;
 }
 
 removal_and_place : (db : Reading) (key : Text) (place : ℕ) (it : IsMove key place db) →
@@ -493,7 +519,7 @@ removal_and_place : (db : Reading) (key : Text) (place : ℕ) (it : IsMove key p
     (with_item place (in_line it.moved.tree) (remove_entry key db))
 removal_and_place db key place it = record {
   front = gained_front (is_entry key) db.front db.items;
-  items = λ n item stays at. let rest = removed_item key db n item stays at in record {
+  items = λ n item stays at. let rest = removed_item (is_entry key) db n item stays at in record {
     item = rest.item;
     at = slice_get-insert (remove_entry key db).items place (in_line it.moved.tree) it.within (number_with_one_less (number_of_first (is_entry key) db.items) n) ∙ rest.at;
     trail_is = rest.trail_is;
@@ -511,7 +537,7 @@ untouched_items-stay key_base db (DropField key name) accepted =
     in_place (is_changed key_base db (DropField key name)) db (edited key_base db (DropField key name)) refl
     (λ n item at. changed_at (is_entry key) (of_entry (entry_without_field name)) db.items n item at)
 untouched_items-stay key_base db (AddEntry place new) accepted = let high = accepted BadPosition in put_in place (item_of new) db (omega (arith, high))
-untouched_items-stay key_base db (RemoveEntry key) accepted = removal key db
+untouched_items-stay key_base db (RemoveEntry key) accepted = removal (is_entry key) db
 untouched_items-stay key_base db (MoveEntry key place) accepted =
     let it = move_of key_base db key place accepted in
     subst (λ (new : Reading). KeepsItems (is_first (is_entry key) db.items) (λ n. false) (λ n. number_with_one_more place (number_with_one_less (number_of_first (is_entry key) db.items) n)) db new)
@@ -550,3 +576,9 @@ untouched_items-stay key_base db (AddMany news) accepted =
 untouched_items-stay key_base db (SetType key kind_name) accepted =
     in_place (is_changed key_base db (SetType key kind_name)) db (edited key_base db (SetType key kind_name)) refl
     (λ n item at. changed_at (is_entry key) (of_entry (entry_with_type kind_name)) db.items n item at)
+untouched_items-stay key_base db (UndefineMacro name) accepted = removal (defines name) db
+untouched_items-stay key_base db (RenameField from to None) accepted =
+    in_place (is_changed key_base db (RenameField from to None)) db (edited key_base db (RenameField from to None)) refl (λ n item at. names_at from to db.items n item at)
+untouched_items-stay key_base db (RenameField from to (Some key)) accepted =
+    in_place (is_changed key_base db (RenameField from to (Some key))) db (edited key_base db (RenameField from to (Some key))) refl
+    (λ n item at. changed_at (is_entry key) (of_entry (entry_renamed from to)) db.items n item at)

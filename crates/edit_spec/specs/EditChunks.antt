@@ -11,7 +11,7 @@ use Rattle.bib_spec.specs.Records.{EntryTexts, Record, entries_of, crossref, ent
 use Rattle.bib_spec.specs.Pieces.{Piece, Chunk, Kept, Replaced, pieces_of_chunks}
 use Rattle.bib_spec.specs.MadeKeys.{new_keys}
 use Rattle.part_spec.specs.Parts.{holds, any_part}
-use Rattle.edit_spec.specs.Edits.{NewEntry, Edit, SetField, DropField, AddEntry, RemoveEntry, MoveEntry, RenameKey, RenameMacro, InlineMacro, IntroduceMacro, RegenerateKeys, AddMany, SetType, leaving, defines, is_entry, new_row, item_of, in_line, in_braces, next_number, key_for, name_renamed, use_renamed, use_inlined, text_of_macro, definition_of, part_introduced}
+use Rattle.edit_spec.specs.Edits.{NewEntry, Edit, SetField, DropField, AddEntry, RemoveEntry, MoveEntry, RenameKey, RenameMacro, InlineMacro, IntroduceMacro, RegenerateKeys, AddMany, SetType, UndefineMacro, RenameField, leaving, defines, is_entry, new_row, item_of, in_line, in_braces, next_number, key_for, name_renamed, use_renamed, use_inlined, text_of_macro, definition_of, part_introduced}
 
 -- ---- trees
 
@@ -129,6 +129,27 @@ field_dropped name before (row ∷ rows) =
     then Kept before ∷ Replaced (row_start row ++ value_bytes row.assignment.value) [] ∷ Kept row.assignment.space_after ∷ kept_rows rows
     else Kept before ∷ Kept (row_start row) ∷ Kept (value_bytes row.assignment.value) ∷ field_dropped name row.assignment.space_after rows
 
+-- ---- names of fields
+
+-- the bytes of a row after its name
+abbrev pub after_name : Row → Text
+after_name row =
+    let a : Assignment = row.assignment in
+    (a.space_before_equals ++ equals_sign ∷ a.space_before_value) ++ (value_bytes a.value ++ a.space_after)
+
+-- a row in chunks, where its name is replaced if it is `from`
+abbrev pub row_name_chunks : Text → Text → Row → List Chunk
+row_name_chunks from to row =
+    Kept (comma ∷ row.space_before_name) ∷ token row.assignment.name (name_renamed from to row.assignment.name) ∷ Kept (after_name row) ∷ []
+
+-- an entry in chunks, where each name `from` of a field is replaced
+abbrev pub names_replaced : Text → Text → Entry → List Chunk
+names_replaced from to e = entry_chunks (Kept e.key) (Kept e.space_after_key ∷ flat_map (row_name_chunks from to) e.rows) e
+
+-- an item in chunks: an entry as this function gives it
+abbrev pub each_entry_as : (Entry → List Chunk) → Item → List Chunk
+each_entry_as change item = entry_body change item.tree ++ Kept item.trail ∷ []
+
 -- ---- types
 
 -- an entry in chunks, where its type is replaced
@@ -211,6 +232,9 @@ changed_items key_base db (IntroduceMacro name text) =
 changed_items key_base db (RegenerateKeys depth) = key_chunks (slice_get (new_keys key_base depth (entries_of db))) db
 changed_items key_base db (AddMany news) = kept_items db.items ++ appended news
 changed_items key_base db (SetType key kind_name) = chunks_from_first (is_entry key) (entry_as (type_replaced kind_name)) db.items
+changed_items key_base db (UndefineMacro name) = chunks_from_first (defines name) without_body db.items
+changed_items key_base db (RenameField from to None) = flat_map (each_entry_as (names_replaced from to)) db.items
+changed_items key_base db (RenameField from to (Some key)) = chunks_from_first (is_entry key) (entry_as (names_replaced from to)) db.items
 
 -- the file in chunks, as the edit keeps and replaces them
 abbrev pub chunks : (Record → Text) → Reading → Edit → List Chunk

@@ -1,5 +1,5 @@
 -- What each edit makes of a database, and when it is refused.
-use Rattle.std.specs.Prelude.{◌≡◌, ◌<◌, ◌⊎◌, ℕ, suc, ◌-◌, Bool, true, false, not, ◌&&◌, ◌||◌, ◌==◌, List, [], ◌∷◌, ◌++◌, Option, Some, None, is_some, unwrap_or, length, insert, if◌then◌else◌, bytes_eq, codes, map, find, scan, count_by, option_and_then, slice_get, All}
+use Rattle.std.specs.Prelude.{◌≡◌, ◌<◌, ◌⊎◌, ℕ, suc, ◌-◌, Bool, true, false, not, ◌&&◌, ◌||◌, ◌==◌, nat_lt, List, [], ◌∷◌, ◌++◌, Option, Some, None, is_some, unwrap_or, length, insert, if◌then◌else◌, bytes_eq, codes, map, find, scan, count_by, option_and_then, slice_get, All}
 use Rattle.std.specs.List.{flat_map, list_any, list_all}
 use Rattle.std.specs.Option.{option_map_or}
 use Rattle.bib_spec.specs.Bytes.{name_limit, file_limit, close_paren}
@@ -7,10 +7,10 @@ use Rattle.bib_spec.specs.Text.{Text, folded, same, is_name, is_new_key}
 use Rattle.bib_spec.specs.Clean.{IsClean, IsCleanTrail}
 use Rattle.bib_spec.specs.Tree.{Part, Braced, Quoted, Digits, Macro, Link, Value, Assignment, Row, Brace, Head, Definition, Entry, Tree, CommentTree, DefinitionTree, PreambleTree, EntryTree, is_comment, is_type, after_key_bytes, value_bytes, IsValue}
 use Rattle.bib_spec.specs.Reading.{Item, Reading, bytes_of, IsValueWithin}
-use Rattle.bib_spec.specs.Texts.{months, parts_of, values_of, seen, too_long_at}
+use Rattle.bib_spec.specs.Texts.{months, seen, too_long_at}
 use Rattle.bib_spec.specs.Records.{EntryTexts, Record, entries_of, keys_of, crossref, has_name, is_named, entry_named, target, parent, dangling_texts}
 use Rattle.bib_spec.specs.MadeKeys.{new_keys}
-use Rattle.part_spec.specs.Parts.{uses, holds, any_part}
+use Rattle.part_spec.specs.Parts.{uses, holds, any_part, have_part}
 
 -- ---- edits
 
@@ -46,6 +46,10 @@ pub data Edit : Type 0 where
   AddMany : List NewEntry → Edit
   -- the entry gets this type: key, type
   SetType : Text → Text → Edit
+  -- the definition of the macro is removed, which nothing uses
+  UndefineMacro : Text → Edit
+  -- each field of the first name gets the second name, in the entry that the key names, or in every entry
+  RenameField : Text → Text → Option Text → Edit
 
 -- The value has these bytes, and it is one of the grammar if any value with these bytes is. A caller gives bytes, and
 -- whether they are a value is decided together with all other reasons to refuse.
@@ -109,6 +113,12 @@ defines name (EntryTree e) = false
 abbrev pub is_in_use : Text → List Item → Bool
 is_in_use name items =
     is_some (months (folded name)) || list_any (λ item. defines name item.tree || any_part (uses name) item.tree) items
+
+-- A use after the first definition of the name sees that definition, or a later one. Its own value does not see it, and no
+-- use before it does.
+abbrev pub is_seen : Text → List Item → Bool
+is_seen name [] = false
+is_seen name (item ∷ items) = if defines name item.tree then have_part (uses name) items else is_seen name items
 
 -- the item is an entry that the key names
 abbrev pub is_entry : Text → Tree → Bool
@@ -202,6 +212,33 @@ set_field key name value db = with_entry key (entry_with_field name value) db
 -- this entry has no such field
 abbrev pub drop_field : Text → Text → Reading → Reading
 drop_field key name db = with_entry key (entry_without_field name) db
+
+-- ---- names of fields
+
+-- the change of a name: `from` becomes `to`
+abbrev pub name_renamed : Text → Text → Text → Option Text
+name_renamed from to name = if same name from then Some to else None
+
+-- a row whose field has its new name
+abbrev pub row_renamed : Text → Text → Row → Row
+row_renamed from to row = record row { assignment = record row.assignment { name = changed (name_renamed from to) row.assignment.name } }
+
+-- an entry whose fields have their new names
+abbrev pub entry_renamed : Text → Text → Entry → Entry
+entry_renamed from to e = record e { rows = map (row_renamed from to) e.rows }
+
+-- the item, changed if it is an entry
+abbrev pub item_changed : (Entry → Entry) → Item → Item
+item_changed change item = record item { tree = of_entry change item.tree }
+
+-- every entry, changed
+abbrev pub with_entries : (Entry → Entry) → Reading → Reading
+with_entries change db = record db { items = map (item_changed change) db.items }
+
+-- the fields have their new name, in the entry that the key names, or in every entry
+abbrev pub rename_field : Text → Text → Option Text → Reading → Reading
+rename_field from to None db = with_entries (entry_renamed from to) db
+rename_field from to (Some key) db = with_entry key (entry_renamed from to) db
 
 -- ---- types
 
@@ -329,10 +366,6 @@ regenerate_keys key_base depth db = with_keys (slice_get (new_keys key_base dept
 
 -- ---- macros
 
--- the change of a defined name: `from` becomes `to`
-abbrev pub name_renamed : Text → Text → Text → Option Text
-name_renamed from to name = if same name from then Some to else None
-
 -- the change of a part: a use of `from` becomes a use of `to`
 abbrev pub use_renamed : Text → Text → Part → Option Part
 use_renamed from to (Macro name) = if same name from then Some (Macro to) else None
@@ -364,6 +397,10 @@ text_of_macro name db = unwrap_or (seen db (length db.items) name) []
 abbrev pub inline_macro : Text → Reading → Reading
 inline_macro name db =
     without_first (defines name) db.front (from_first (defines name) (uses_inlined name (text_of_macro name db)) db.items)
+
+-- the definition is removed
+abbrev pub undefine_macro : Text → Reading → Reading
+undefine_macro name db = without_first (defines name) db.front db.items
 
 -- `@string{name = {text}}`
 abbrev pub definition_of : Text → Text → Definition
@@ -405,6 +442,8 @@ edited key_base db (IntroduceMacro name text) = introduce_macro name text db
 edited key_base db (RegenerateKeys depth) = regenerate_keys key_base depth db
 edited key_base db (AddMany news) = add_many news db
 edited key_base db (SetType key kind_name) = set_type key kind_name db
+edited key_base db (UndefineMacro name) = undefine_macro name db
+edited key_base db (RenameField from to key) = rename_field from to key db
 
 -- ---- what an edit is given
 
@@ -432,7 +471,14 @@ given_names (AddMany news) = flat_map field_names news
 given_names (RenameMacro from to) = from ∷ to ∷ []
 given_names (InlineMacro name) = name ∷ []
 given_names (IntroduceMacro name text) = name ∷ []
+given_names (UndefineMacro name) = name ∷ []
+given_names (RenameField from to key) = from ∷ to ∷ []
 given_names other = []
+
+-- no `crossref` gets another name, and no field the name `crossref`: parents would come or go
+abbrev pub leaves_crossref : Edit → Bool
+leaves_crossref (RenameField from to key) = not (same from crossref) && not (same to crossref)
+leaves_crossref other = true
 
 -- the types of entries in the edit
 abbrev pub given_types : Edit → List Text
@@ -459,6 +505,18 @@ holders key db = count_by (is_named key) (keys_of (entries_of db))
 abbrev pub fields_named : Text → Text → Reading → ℕ
 fields_named key name db =
     option_map_or (λ entry. count_by (has_name name) entry.fields) (option_and_then (slice_get (entries_of db)) (entry_named (entries_of db) key)) 0
+
+-- the entry has a field of this name
+abbrev pub has_field : Text → EntryTexts → Bool
+has_field name entry = list_any (has_name name) entry.fields
+
+-- how many fields of the entry would have the name `to` if each `from` became `to`
+abbrev pub fields_then : Text → Text → EntryTexts → ℕ
+fields_then from to entry = count_by (λ field. has_name from field || has_name to field) entry.fields
+
+-- the entry has a field `from`, and would have two fields `to` if each `from` became `to`
+abbrev pub would_repeat : Text → Text → EntryTexts → Bool
+would_repeat from to entry = has_field from entry && nat_lt 1 (fields_then from to entry)
 
 -- how many definitions the macro has
 abbrev pub definitions : Text → Reading → ℕ
@@ -545,9 +603,12 @@ IsMissing db (RenameMacro from to) = definitions from db ≡ 0
 IsMissing db (InlineMacro name) = definitions name db ≡ 0
 IsMissing db (IntroduceMacro name text) = list_any (λ item. any_part (holds text) item.tree) db.items ≡ false
 IsMissing db (SetType key kind_name) = holders key db ≡ 0
+IsMissing db (UndefineMacro name) = definitions name db ≡ 0
+IsMissing db (RenameField from to None) = list_any (has_field from) (entries_of db) ≡ false
+IsMissing db (RenameField from to (Some key)) = fields_named key from db ≡ 0
 IsMissing db other = ⊥
 
--- what the edit addresses is there twice, or a new entry has a field twice
+-- what the edit addresses is there twice, or a new entry has a field twice, or an entry would have a renamed field twice
 abbrev pub IsAmbiguous : Reading → Edit → Type 0
 IsAmbiguous db (SetField key name value) = (1 < holders key db) ⊎ (1 < fields_named key name db)
 IsAmbiguous db (DropField key name) = (1 < holders key db) ⊎ (1 < fields_named key name db)
@@ -559,6 +620,11 @@ IsAmbiguous db (RenameMacro from to) = 1 < definitions from db
 IsAmbiguous db (InlineMacro name) = 1 < definitions name db
 IsAmbiguous db (AddMany news) = list_any (λ new. has_same (field_names new)) news ≡ true
 IsAmbiguous db (SetType key kind_name) = 1 < holders key db
+IsAmbiguous db (UndefineMacro name) = 1 < definitions name db
+IsAmbiguous db (RenameField from to None) = list_any (would_repeat from to) (entries_of db) ≡ true
+IsAmbiguous db (RenameField from to (Some key)) =
+    (1 < holders key db)
+    ⊎ (option_map_or (would_repeat from to) (option_and_then (slice_get (entries_of db)) (entry_named (entries_of db) key)) false ≡ true)
 IsAmbiguous db other = ⊥
 
 -- The new key is the key of another entry or of another new entry, or the text of a dangling crossref. That last is a reason
@@ -585,12 +651,13 @@ MergesText db (DropField key name) =
 MergesText db (RemoveEntry key) = HasCleanTexts (remove_entry key db) → ⊥
 MergesText db (MoveEntry key position) = HasCleanTexts (remove_entry key db) → ⊥
 MergesText db (InlineMacro name) = HasCleanTexts (inline_macro name db) → ⊥
+MergesText db (UndefineMacro name) = HasCleanTexts (undefine_macro name db) → ⊥
 MergesText db other = ⊥
 
 -- The edit is refused for this reason. (dialect)
 abbrev pub Refuses : (Record → Text) → EditFault → Reading → Edit → Type 0
 Refuses key_base BadKey db e = list_all is_new_key (given_keys e) ≡ false
-Refuses key_base BadName db e = (list_all is_name (given_names e) && list_all is_type (given_types e)) ≡ false
+Refuses key_base BadName db e = (leaves_crossref e && (list_all is_name (given_names e) && list_all is_type (given_types e))) ≡ false
 Refuses key_base BadValue db e = All (IsValue name_limit) (given_values e) → ⊥
 Refuses key_base BadPosition db e = IsPositionTooHigh db e
 Refuses key_base NotFound db e = IsMissing db e
@@ -598,6 +665,7 @@ Refuses key_base Ambiguous db e = IsAmbiguous db e
 Refuses key_base KeyInUse db e = IsKeyInUse db e
 Refuses key_base NameInUse db e = IsNameInUse db e
 Refuses key_base Referred db (RemoveEntry key) = IsReferred key (entries_of db)
+Refuses key_base Referred db (UndefineMacro name) = is_seen name db.items ≡ true
 Refuses key_base Referred db other = ⊥
 Refuses key_base WouldMerge db e = MergesText db e
 Refuses key_base FileTooLong db e = file_limit < length (bytes_of (edited key_base db e))

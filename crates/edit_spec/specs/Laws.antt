@@ -1,15 +1,16 @@
 -- What the edits keep: each law is about every database and every accepted edit.
-use Rattle.std.specs.Prelude.{◌≡◌, ◌<◌, ◌≢◌, ℕ, suc, Bool, true, false, List, [], Option, Some, None, is_some, unwrap_or, option_map, option_and_then, slice_get, map, length, take}
+use Rattle.std.specs.Prelude.{◌≡◌, ◌<◌, ◌≢◌, ℕ, suc, Bool, true, false, List, [], Option, Some, None, is_some, unwrap_or, option_map, option_and_then, slice_get, map, length, take, not, ◌==◌, ◌∷◌, filter, if◌then◌else◌}
 use Rattle.std.specs.List.{list_any, list_all}
+use Rattle.std.specs.Option.{option_map_or}
 use Rattle.bib_spec.specs.Text.{Text, folded, same, IsBalanced}
 use Rattle.bib_spec.specs.Tree.{Definition, Tree, DefinitionTree}
 use Rattle.bib_spec.specs.Reading.{Item, Reading, Reads, bytes_of}
 use Rattle.bib_spec.specs.Texts.{months, macros_in, macros_at, raw_text, seen}
-use Rattle.bib_spec.specs.Records.{EntryTexts, Record, entries_of, preambles_of, keys_of, entry_named, parent, expanded, cites_all, listed, unknown}
+use Rattle.bib_spec.specs.Records.{Field, EntryTexts, Record, RecordField, entries_of, preambles_of, keys_of, entry_named, parent, expanded, cites_all, listed, unknown}
 use Rattle.bib_spec.specs.Pieces.{Fit, applied, old_of, new_of}
 use Rattle.bib_spec.specs.MadeKeys.{new_keys, IsKeyBase}
 use Rattle.part_spec.specs.Parts.{holds, any_part}
-use Rattle.edit_spec.specs.Edits.{Edit, RenameKey, RenameMacro, InlineMacro, IntroduceMacro, RegenerateKeys, SetType, defines, key_for, edited, IsAccepted}
+use Rattle.edit_spec.specs.Edits.{Edit, RenameKey, RenameMacro, InlineMacro, IntroduceMacro, RegenerateKeys, SetType, UndefineMacro, RenameField, changed, name_renamed, defines, key_for, edited, IsAccepted}
 use Rattle.edit_spec.specs.EditChunks.{chunks, pieces_of}
 
 -- ---- macros
@@ -137,6 +138,54 @@ set_type_keeps = (key_base : Record → Text) (db : Reading) (key kind_name : Te
     let new : Reading = edited key_base db (SetType key kind_name) in
     KeepsAllButTypes (type_for (entry_named (entries_of db) key) kind_name) db new × KeepsMacros db new × KeepsCitations db new
 
+-- ---- renaming fields
+
+-- the edit renames fields of entry n, as this key says it
+abbrev pub is_renamed_in : Reading → Option Text → ℕ → Bool
+is_renamed_in db None n = true
+is_renamed_in db (Some key) n = option_map_or (λ m. m == n) (entry_named (entries_of db) key) false
+
+-- a field of an entry whose name `from` becomes `to`
+abbrev pub field_renamed : Text → Text → Field → Field
+field_renamed from to field = record field { name = changed (name_renamed from to) field.name }
+
+-- an entry's texts, with each name `from` changed to `to` if its fields are renamed
+abbrev pub texts_renamed : Text → Text → Bool → EntryTexts → EntryTexts
+texts_renamed from to is_renamed entry = if is_renamed then record entry { fields = map (field_renamed from to) entry.fields } else entry
+
+-- a field of a record whose name `from` becomes `to`; a record has names in lower case
+abbrev pub record_field_renamed : Text → Text → RecordField → RecordField
+record_field_renamed from to field = (if same field.0 from then folded to else field.0, field.1)
+
+-- the first field of each name
+abbrev pub first_of_each : List RecordField → List RecordField
+first_of_each [] = []
+first_of_each (field ∷ fields) = field ∷ filter (λ other. not (same field.0 other.0)) (first_of_each fields)
+
+-- A record with each name `from` changed to `to`. If the entry now has the name of a field that it inherited, or inherits one that
+-- has a name of its own, its own field counts.
+abbrev pub record_renamed : Text → Text → Record → Record
+record_renamed from to r = record r { fields = first_of_each (map (record_field_renamed from to) r.fields) }
+
+-- The texts of the entries in which fields are renamed have the new name in place of the old one, and all other entries are
+-- what they were; so is each parent, and each preamble.
+pub record KeepsAllButNames (from to : Text) (is_renamed : ℕ → Bool) (old new : Reading) : Type 0 where
+  pub count : length (entries_of new) ≡ length (entries_of old)
+  pub entries : (n : ℕ) → slice_get (entries_of new) n ≡ option_map (texts_renamed from to (is_renamed n)) (slice_get (entries_of old) n)
+  pub parents : (n : ℕ) → parent (entries_of new) n ≡ parent (entries_of old) n
+  pub preambles : preambles_of new ≡ preambles_of old
+
+-- Renaming fields keeps all that the database says, except for their names.
+abbrev pub rename_field_keeps : Type 0
+rename_field_keeps = (key_base : Record → Text) (db : Reading) (from to : Text) (key : Option Text) → IsAccepted key_base db (RenameField from to key) →
+    let new : Reading = edited key_base db (RenameField from to key) in
+    KeepsAllButNames from to (is_renamed_in db key) db new × KeepsMacros db new × KeepsCitations db new
+
+-- In every entry, each record has at every depth the new name in place of the old one.
+abbrev pub renamed_fields_are_inherited : Type 0
+renamed_fields_are_inherited = (key_base : Record → Text) (db : Reading) (from to : Text) → IsAccepted key_base db (RenameField from to None) → (depth n : ℕ) →
+    expanded depth (entries_of (edited key_base db (RenameField from to None))) n ≡ option_map (record_renamed from to) (expanded depth (entries_of db) n)
+
 -- ---- renaming macros
 
 -- After the definition the new name stands for what the old name stood for. A change of case alone changes no meaning.
@@ -163,6 +212,19 @@ abbrev pub inline_macro_keeps : Type 0
 inline_macro_keeps = (key_base : Record → Text) (db : Reading) (name : Text) → IsAccepted key_base db (InlineMacro name) →
     let new : Reading = edited key_base db (InlineMacro name) in
     KeepsEntries no_new_key db new × KeepsCitations db new × SeesInlined name db new
+
+-- Without the definition, the name stands for a month's text, or for nothing, and all other names for what they stood for. An
+-- item after the definition has a number that is one less.
+pub record SeesUndefined (name : Text) (old new : Reading) : Type 0 where
+  pub before : (n : ℕ) (other : Text) → is_after name old.items n ≡ false → seen new n other ≡ seen old n other
+  pub after : (n : ℕ) (other : Text) → is_after name old.items (suc n) ≡ true → same other name ≡ false → seen new n other ≡ seen old (suc n) other
+  pub undefined : (n : ℕ) → seen new n name ≡ months (folded name)
+
+-- Removing the definition of a macro that nothing uses keeps all that the database says, except for the macro.
+abbrev pub undefine_macro_keeps : Type 0
+undefine_macro_keeps = (key_base : Record → Text) (db : Reading) (name : Text) → IsAccepted key_base db (UndefineMacro name) →
+    let new : Reading = edited key_base db (UndefineMacro name) in
+    KeepsEntries no_new_key db new × KeepsCitations db new × SeesUndefined name db new
 
 -- Before the first item that holds the text all names stand for what they stood for. From that item on each item's number is
 -- one more, the new name stands for the text, and all other names stand for what they stood for.

@@ -8,7 +8,7 @@ use Rattle.bib_spec.specs.Reading.{Item, Reading}
 use Rattle.bib_spec.specs.MadeKeys.{new_keys}
 use Rattle.bib_spec.specs.Records.{EntryTexts, Record, entries_of, preambles_of, crossref, entry_named, target, parent, dangling_texts, expanded}
 use Rattle.part_spec.specs.Parts.{uses, holds, any_part}
-use Rattle.edit_spec.specs.Edits.{NewEntry, Edit, SetField, DropField, AddEntry, RemoveEntry, MoveEntry, RenameKey, RenameMacro, InlineMacro, IntroduceMacro, RegenerateKeys, AddMany, SetType, given_keys, defines, is_entry, in_line, edited, IsAccepted}
+use Rattle.edit_spec.specs.Edits.{NewEntry, Edit, SetField, DropField, AddEntry, RemoveEntry, MoveEntry, RenameKey, RenameMacro, InlineMacro, IntroduceMacro, RegenerateKeys, AddMany, SetType, UndefineMacro, RenameField, given_keys, defines, is_entry, in_line, edited, IsAccepted}
 use Rattle.edit_spec.specs.Laws.{is_after, is_reached}
 
 -- ---- numbers
@@ -89,12 +89,18 @@ abbrev pub is_gone : Reading → Edit → ℕ → Bool
 is_gone db (RemoveEntry key) n = is_first (is_entry key) db.items n
 is_gone db (MoveEntry key position) n = is_first (is_entry key) db.items n
 is_gone db (InlineMacro name) n = is_first (defines name) db.items n
+is_gone db (UndefineMacro name) n = is_first (defines name) db.items n
 is_gone db other n = false
 
 -- the item is an entry
 abbrev pub is_any_entry : Tree → Bool
 is_any_entry (EntryTree e) = true
 is_any_entry other = false
+
+-- the item is an entry that has a row of this name
+abbrev pub has_row : Text → Tree → Bool
+has_row name (EntryTree e) = list_any (λ row. same row.assignment.name name) e.rows
+has_row name other = false
 
 -- entry m is that entry, or its crossref names it
 abbrev pub is_or_refers_to : List EntryTexts → Option ℕ → ℕ → Bool
@@ -133,6 +139,8 @@ is_changed key_base db (IntroduceMacro name text) n = passes (any_part (holds te
 is_changed key_base db (RegenerateKeys depth) n =
     passes (λ tree. not (has_its_keys (slice_get (new_keys key_base depth (entries_of db))) (entries_of db) (entries_before n db) tree)) db.items n
 is_changed key_base db (SetType key kind_name) n = is_first (is_entry key) db.items n
+is_changed key_base db (RenameField from to None) n = passes (has_row from) db.items n
+is_changed key_base db (RenameField from to (Some key)) n = is_first (is_entry key) db.items n
 is_changed key_base db other n = false
 
 -- the number of item n afterwards, if it is not taken away
@@ -141,6 +149,7 @@ new_number db (AddEntry position entry) n = number_with_one_more position n
 new_number db (RemoveEntry key) n = number_with_one_less (number_of_first (is_entry key) db.items) n
 new_number db (MoveEntry key position) n = number_with_one_more position (number_with_one_less (number_of_first (is_entry key) db.items) n)
 new_number db (InlineMacro name) n = number_with_one_less (number_of_first (defines name) db.items) n
+new_number db (UndefineMacro name) n = number_with_one_less (number_of_first (defines name) db.items) n
 new_number db (IntroduceMacro name text) n = number_with_one_more (number_of_first (any_part (holds text)) db.items) n
 new_number db other n = n
 

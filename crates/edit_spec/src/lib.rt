@@ -28,7 +28,8 @@ pub use other_entries::other_entries_are_kept;
 pub use renaming::{
     inlining_a_macro_keeps_the_rest, introducing_a_macro_keeps_the_rest,
     regenerating_keys_keeps_the_rest, renaming_a_key_keeps_the_rest,
-    renaming_a_macro_keeps_the_rest,
+    renaming_a_macro_keeps_the_rest, renaming_fields_keeps_the_rest,
+    undefining_a_macro_keeps_the_rest,
 };
 pub use types::a_type_is_set_and_all_else_kept;
 pub use untouched_items::untouched_items_keep_their_bytes;

@@ -1,6 +1,6 @@
 //! Laws of the edits that rename: they keep all that a database says, except for the names.
 
-ghost use Rattle.edit_spec.specs.Laws.{rename_key_keeps, rename_macro_keeps, inline_macro_keeps, introduce_macro_keeps, regenerate_keys_keeps, made_keys_differ, regenerating_again_changes_nothing};
+ghost use Rattle.edit_spec.specs.Laws.{rename_key_keeps, rename_macro_keeps, inline_macro_keeps, introduce_macro_keeps, undefine_macro_keeps, rename_field_keeps, renamed_fields_are_inherited, regenerate_keys_keeps, made_keys_differ, regenerating_again_changes_nothing};
 
 /// Renaming a key keeps each record except for that key, each parent, each preamble, what each macro stands for, and each
 /// cited list.
@@ -18,6 +18,19 @@ pub fn renaming_a_macro_keeps_the_rest()
 /// other macro stands for.
 pub fn inlining_a_macro_keeps_the_rest()
     ensures { inline_macro_keeps }
+{}
+
+/// Removing the definition of a macro that nothing uses keeps each record, each parent, each preamble, each cited list, and
+/// what each other macro stands for.
+pub fn undefining_a_macro_keeps_the_rest()
+    ensures { undefine_macro_keeps }
+{}
+
+/// Renaming fields keeps each record except for these names, each parent, each preamble, what each macro stands for, and each
+/// cited list. If fields are renamed in every entry, each record has at every depth the new name in place of the old one.
+pub fn renaming_fields_keeps_the_rest()
+    ensures keeps { rename_field_keeps }
+    ensures inherited { renamed_fields_are_inherited }
 {}
 
 /// Giving a text a name keeps each record, each parent, each preamble, each cited list, and what each other

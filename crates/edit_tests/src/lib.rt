@@ -8,6 +8,8 @@ mod answers;
 #[cfg(test)]
 mod examples;
 #[cfg(test)]
+mod fields;
+#[cfg(test)]
 mod insertions;
 #[cfg(test)]
 mod lengths;

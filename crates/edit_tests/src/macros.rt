@@ -1,4 +1,4 @@
-//! Macros that are renamed, inlined and introduced.
+//! Macros that are renamed, inlined, introduced and undefined.
 
 use crate::rows::{Course, Row, Step, all_come_out, all_hold};
 use crate::turns::Turn;
@@ -125,6 +125,53 @@ const INTRODUCED: &[Row<'_>] = &[
     },
 ];
 
+const UNDEFINED: &[Row<'_>] = &[
+    Row {
+        name: "a definition that no use sees is removed, and a use before it is left",
+        file: b"@misc{a,t=m}@string{m=m#{x}}y@misc{b}",
+        turn: Turn::Script(b"undefine\tM"),
+        refusal: 0,
+        left: b"@misc{a,t=m}y@misc{b}",
+    },
+    Row {
+        name: "a definition that a field uses is left",
+        file: USED,
+        turn: Turn::Script(b"undefine\tm"),
+        refusal: 39,
+        left: USED,
+    },
+    Row {
+        name: "a definition that another definition uses is left",
+        file: b"@string{m=1}@string{n={x}#M}",
+        turn: Turn::Script(b"undefine\tm"),
+        refusal: 39,
+        left: b"@string{m=1}@string{n={x}#M}",
+    },
+    Row {
+        name: "one of two definitions is not removed",
+        file: b"@string{m=1}@string{M=2}",
+        turn: Turn::Script(b"undefine\tm"),
+        refusal: 36,
+        left: b"@string{m=1}@string{M=2}",
+    },
+    Row {
+        name: "a month is no definition",
+        file: USED,
+        turn: Turn::Script(b"undefine\tjan"),
+        refusal: 35,
+        left: USED,
+    },
+    Row {
+        name: "a definition between texts that would begin an item is left",
+        file: b"a@foo \n@string{m = 1}{b",
+        turn: Turn::Script(b"undefine\tm"),
+        refusal: 40,
+        left: b"a@foo \n@string{m = 1}{b",
+    },
+];
+
+const USED: &[u8] = b"@misc{a,t=m}@string{m=1}@misc{b,t=m}";
+
 const INLINED_BESIDE: &[u8] = b"@string{m={x}}\n\n@misc{b,t=n}\n\n\n@misc{d,t={xy}}\n";
 
 const MOVED_AND_INLINED: &[u8] =
@@ -221,6 +268,11 @@ fn a_macro_is_inlined(rt: HostRuntime) -> Result<(), Fail> {
 #[test]
 fn a_macro_is_introduced(rt: HostRuntime) -> Result<(), Fail> {
     all_hold(rt.alloc(), INTRODUCED)
+}
+
+#[test]
+fn a_macro_is_undefined(rt: HostRuntime) -> Result<(), Fail> {
+    all_hold(rt.alloc(), UNDEFINED)
 }
 
 #[test]

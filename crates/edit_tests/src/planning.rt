@@ -33,6 +33,12 @@ const EDITS: &[Planned] = &[
         pieces: &[(3, b"Misc", b"Book")],
     },
     Planned {
+        name: "the names of fields give way alone, whatever their case",
+        file: b"x@misc{a, T = 1}@misc{b,t=2}",
+        turn: Turn::Script(b"rename-field\tt\ttitle"),
+        pieces: &[(10, b"T", b"title"), (24, b"t", b"title")],
+    },
+    Planned {
         name: "a move is two pieces",
         file: b"@misc{a}\n@misc{b}\n",
         turn: Turn::Script(b"move\ta\t1"),

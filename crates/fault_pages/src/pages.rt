@@ -161,7 +161,7 @@ pub(crate) fn faults_of_edits(word: &[u8]) -> Option<Page>
         return Some(Page {
             number: b"32",
             name: b"BadName",
-            text: b"The name of a field or macro is not valid, or the type that an entry would have is not. `string`, `preamble` and `comment`\nare not types of entries. `FORMAT-BIB.md` says what a name is.\n\n  $ printf '%s\\t%s\\t%s\\t%s\\n' set a 'x=y' 1 | bibkeep edit f.bib\n  applied 0\n  bibkeep: line 1: 32 BadName\n\nWrite a name without white space and `=`. Look for words in the wrong order.\n",
+            text: b"The name of a field or macro is not valid, or the type that an entry would have is not. `string`, `preamble` and `comment`\nare not types of entries. `FORMAT-BIB.md` says what a name is.\n\n`rename-field` also refuses the name `crossref`, old or new: entries would lose a parent, or get one.\n\n  $ printf '%s\\t%s\\t%s\\t%s\\n' set a 'x=y' 1 | bibkeep edit f.bib\n  applied 0\n  bibkeep: line 1: 32 BadName\n\nWrite a name without white space and `=`. Look for words in the wrong order.\n",
         });
     }
     if is_asked(word, b"33", b"BadValue") {
@@ -182,14 +182,14 @@ pub(crate) fn faults_of_edits(word: &[u8]) -> Option<Page>
         return Some(Page {
             number: b"35",
             name: b"NotFound",
-            text: b"There is nothing to change. No entry has the key, or the entry has no such field to drop; the file does not define the\nmacro (a month is not a definition); or no part of a value is the text to introduce. Or no entry has the key of a position\n`before:KEY` or `after:KEY`, in an edit or an `insert`.\n\n  $ printf '%s\\t%s\\t%s\\n' drop b t | bibkeep edit f.bib\n  applied 0\n  bibkeep: line 1: 35 NotFound\n\n`bibkeep cite F '*'` lists the keys. A field that `show` prints may be inherited: change it in the parent.\n",
+            text: b"There is nothing to change. No entry has the key, or the entry has no such field to drop or rename; no entry has a field to\nrename; the file does not define the macro (a month is not a definition); or no part of a value is the text to introduce. Or\nno entry has the key of a position `before:KEY` or `after:KEY`, in an edit or an `insert`.\n\n  $ printf '%s\\t%s\\t%s\\n' drop b t | bibkeep edit f.bib\n  applied 0\n  bibkeep: line 1: 35 NotFound\n\n`bibkeep cite F '*'` lists the keys. A field that `show` prints may be inherited: change it in the parent.\n",
         });
     }
     if is_asked(word, b"36", b"Ambiguous") {
         return Some(Page {
             number: b"36",
             name: b"Ambiguous",
-            text: b"Two entries have the key; or the entry has the field twice, or a new entry would; or the macro is defined twice. The key may also\nbe that of a position, `before:KEY` or `after:KEY`: give the number of items then.\n\n  $ printf '%s\\t%s\\t%s\\t%s\\n' set a t 3 | bibkeep edit f.bib\n  applied 0\n  bibkeep: line 1: 36 Ambiguous\n\n`bibkeep check F` reports repeated entries and extra fields. It does not report a macro that is defined twice, but\n`grep -in '@string' F` lists the definitions. Remove one of the two by hand.\n",
+            text: b"Two entries have the key; or the entry has the field twice, or a new entry would; or the macro is defined twice. The key may also\nbe that of a position, `before:KEY` or `after:KEY`: give the number of items then. `rename-field` says 36 if an entry would have\nthe new name twice; other entries with that name are no reason.\n\n  $ printf '%s\\t%s\\t%s\\t%s\\n' set a t 3 | bibkeep edit f.bib\n  applied 0\n  bibkeep: line 1: 36 Ambiguous\n\n`bibkeep check F` reports repeated entries and extra fields. It does not report a macro that is defined twice, but\n`grep -in '@string' F` lists the definitions. Remove one of the two by hand.\n",
         });
     }
     if is_asked(word, b"37", b"KeyInUse") {
@@ -210,14 +210,14 @@ pub(crate) fn faults_of_edits(word: &[u8]) -> Option<Page>
         return Some(Page {
             number: b"39",
             name: b"Referred",
-            text: b"The `crossref` of another entry names the entry that you remove. The other entry would lose what it inherits.\n\n  $ printf '%s\\t%s\\n' remove c | bibkeep edit f.bib\n  applied 0\n  bibkeep: line 1: 39 Referred\n  $ bibkeep cite f.bib '*' | awk -F'\\t' 'tolower($2) == \"c\" { print $1 }'\n  b\n\nThe last command lists the entries that refer to `c`. `drop` or `set` their `crossref` first.\n",
+            text: b"The `crossref` of another entry names the entry that you remove. The other entry would lose what it inherits.\n\n  $ printf '%s\\t%s\\n' remove c | bibkeep edit f.bib\n  applied 0\n  bibkeep: line 1: 39 Referred\n  $ bibkeep cite f.bib '*' | awk -F'\\t' 'tolower($2) == \"c\" { print $1 }'\n  b\n\nThe last command lists the entries that refer to `c`. `drop` or `set` their `crossref` first.\n\n`undefine` says 39 of a macro that a value after the definition uses. The value would lose the macro's text.\n\n  $ printf '@string{m = 1}@misc{a, t = m}' > used.bib; bibkeep edit used.bib undefine m\n  applied 0\n  bibkeep: 39 Referred\n\n`inline` writes the text for the uses, and removes the definition.\n",
         });
     }
     if is_asked(word, b"40", b"WouldMerge") {
         return Some(Page {
             number: b"40",
             name: b"WouldMerge",
-            text: b"The edit would turn text into something else:\n\n- The text before and after an entry that you remove or move, or a definition that `inline` removes, would join, and begin\n  an item or continue the word `comment`.\n- In an entry that was opened with `(`, the closing `)` would become a byte of the key.\n- The text before the position of an `insert` would join the beginning of its text, and begin an item.\n- In a `merge`, text of one side would join text of the other, and begin an item.\n\n  $ printf 'x @book@misc{a}{b}' > merged.bib; printf '%s\\t%s\\n' remove a | bibkeep edit merged.bib\n  applied 0\n  bibkeep: line 1: 40 WouldMerge\n  $ printf '@misc(a, t = 1)' > round.bib; printf '%s\\t%s\\t%s\\n' drop a t | bibkeep edit round.bib\n  applied 0\n  bibkeep: line 1: 40 WouldMerge\n  $ printf '@misc{a} x @book' > joined.bib; printf '{b}' | bibkeep insert joined.bib after:a --print\n  bibkeep: 40 WouldMerge\n  $ printf '@misc{a}\\n' > base.bib; printf '@misc{a}\\n@book\\n' > ours.bib; printf '@misc{a}\\n{b}\\n' > theirs.bib\n  $ bibkeep merge base.bib ours.bib theirs.bib\n  bibkeep: 40 WouldMerge\n\nChange the text between the items by hand. Before a `)`, write white space:\n\n  $ printf '@misc(a, t = 1 )' > spaced.bib; printf '%s\\t%s\\t%s\\n' drop a t | bibkeep edit spaced.bib; cat spaced.bib; echo\n  applied 1\n  @misc(a )\n",
+            text: b"The edit would turn text into something else:\n\n- The text before and after an entry that you remove or move, or a definition that `inline` or `undefine` removes, would\n  join, and begin an item or continue the word `comment`.\n- In an entry that was opened with `(`, the closing `)` would become a byte of the key.\n- The text before the position of an `insert` would join the beginning of its text, and begin an item.\n- In a `merge`, text of one side would join text of the other, and begin an item.\n\n  $ printf 'x @book@misc{a}{b}' > merged.bib; printf '%s\\t%s\\n' remove a | bibkeep edit merged.bib\n  applied 0\n  bibkeep: line 1: 40 WouldMerge\n  $ printf '@misc(a, t = 1)' > round.bib; printf '%s\\t%s\\t%s\\n' drop a t | bibkeep edit round.bib\n  applied 0\n  bibkeep: line 1: 40 WouldMerge\n  $ printf '@misc{a} x @book' > joined.bib; printf '{b}' | bibkeep insert joined.bib after:a --print\n  bibkeep: 40 WouldMerge\n  $ printf '@misc{a}\\n' > base.bib; printf '@misc{a}\\n@book\\n' > ours.bib; printf '@misc{a}\\n{b}\\n' > theirs.bib\n  $ bibkeep merge base.bib ours.bib theirs.bib\n  bibkeep: 40 WouldMerge\n\nChange the text between the items by hand. Before a `)`, write white space:\n\n  $ printf '@misc(a, t = 1 )' > spaced.bib; printf '%s\\t%s\\t%s\\n' drop a t | bibkeep edit spaced.bib; cat spaced.bib; echo\n  applied 1\n  @misc(a )\n",
         });
     }
     if is_asked(word, b"41", b"JournalFull") {

@@ -3,7 +3,9 @@ use Rattle.std.specs.Prelude.{List, ◌++◌, codes}
 use Rattle.std.specs.List.{flat_map}
 use Rattle.bib_spec.specs.Text.{Text, folded}
 use Rattle.merge_spec.specs.Units.{Label, EntryLabel, MacroLabel, BytesLabel}
+use Rattle.bib_renames.specs.declared.conflict.KeyConflict.{KeyConflict}
 use Rattle.merge_spec.specs.Conflicts.{ChangedPart, Whole, TheType, TheField, Change, Changed, BothAdded, RemovedByOurs, RemovedByTheirs, Conflict}
+use Rattle.bib_uses.specs.declared.losing.LostUse.{LostUse}
 
 -- the words for a unit with this label: `entry` and the key, or `macro` and the name, in lower case; or `text`
 abbrev pub label_words : Label → Text
@@ -44,6 +46,15 @@ conflict_lines conflicts = flat_map (λ c. change_lines c.label c.change) confli
 abbrev pub lost_line : Text → Text
 lost_line key = codes "conflict crossref " ++ (folded key ++ codes "\n")
 
--- the lines of conflicts, and of entries with these keys that have lost their parents
-abbrev pub told_lines : List Conflict → List Text → Text
-told_lines conflicts lost = conflict_lines conflicts ++ flat_map lost_line lost
+-- the line of an entry to which each side gave another key: the key in the common file, ours and theirs, in lower case
+abbrev pub key_line : KeyConflict → Text
+key_line c = codes "conflict key " ++ (folded c.key ++ (codes " " ++ (folded c.ours ++ (codes " " ++ (folded c.theirs ++ codes "\n")))))
+
+-- the line of a use of a macro that has lost its meaning, as `conflict macro jacm in knuth86`
+abbrev pub use_line : LostUse → Text
+use_line u = codes "conflict macro " ++ (u.name ++ (codes " in " ++ (folded u.key ++ codes "\n")))
+
+-- the lines of entries to which each side gave another key, of conflicts, of entries with these keys that have lost their parents, and of
+-- uses of macros that have lost their meaning
+abbrev pub told_lines : List KeyConflict → List Conflict → List Text → List LostUse → Text
+told_lines keys conflicts lost uses = flat_map key_line keys ++ (conflict_lines conflicts ++ (flat_map lost_line lost ++ flat_map use_line uses))

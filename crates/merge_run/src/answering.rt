@@ -9,7 +9,7 @@ ghost use Rattle.merge_run.specs.Answers.{merged_status, merged_answer, fault_li
 
 use crate::lines::told_lines;
 use bib_answers::{Answer, Outcome, outcome_of, refusal_in, refused};
-use bib_merge::{Conflict, MergeFault, Merged, merge};
+use bib_merge::{Conflict, KeyConflict, LostUse, MergeFault, Merged, merge};
 use bib_text::{Text, copied};
 use bib_words::status;
 use std::alloc::{AllocError, Global};
@@ -39,23 +39,31 @@ fn fault_line(alloc: Global, names: &[Text], fault: MergeFault) -> Result<Text, 
     }
 }
 
-/// The status after a merge with these conflicts, in which the entries with these keys have lost their parents.
-fn merged_status(conflicts: &[Conflict<'_>], lost: &[Text]) -> u8
-    ensures { result ≡ merged_status (map conflict_seen conflicts.now) lost.now }
+/// The status after a merge with these conflicts, in which the entries with these keys have lost their parents, and these uses of macros
+/// their meaning.
+fn merged_status(
+    keys: &[KeyConflict],
+    conflicts: &[Conflict],
+    lost: &[Text],
+    uses: &[LostUse],
+) -> u8
+    ensures { result ≡ merged_status keys.now (map conflict_seen conflicts.now) lost.now uses.now }
 {
-    match (conflicts.first(), lost.first()) {
-        (None, None) => status::DONE,
+    match (keys.first(), conflicts.first(), lost.first(), uses.first()) {
+        (None, None, None, None) => status::DONE,
         _ => status::REFUSED,
     }
 }
 
 /// The answer that has the merged file: to be stored, or with `print` as the output.
-fn merged_answer(alloc: Global, print: bool, merged: Merged<'_>) -> Result<Answer, AllocError>
-    ensures { IfOk result (λ answer. answer ≡ merged_answer print merged.entry.text (map conflict_seen merged.entry.conflicts.items) merged.entry.lost.items) }
+fn merged_answer(alloc: Global, print: bool, merged: Merged) -> Result<Answer, AllocError>
+    ensures { IfOk result (λ answer. answer ≡ merged_answer print merged.text merged.keys.items (map conflict_seen merged.conflicts.items) merged.lost.items merged.uses.items) }
 {
+    let keys = merged.keys.as_slice();
     let (conflicts, lost) = (merged.conflicts.as_slice(), merged.lost.as_slice());
-    let lines = told_lines(alloc, conflicts, lost)?;
-    let status = merged_status(conflicts, lost);
+    let uses = merged.uses.as_slice();
+    let lines = told_lines(alloc, keys, conflicts, lost, uses)?;
+    let status = merged_status(keys, conflicts, lost, uses);
     if print {
         return Ok(Answer {
             output: merged.text,

@@ -5,10 +5,11 @@ ghost use Rattle.std.specs.List.{flat_map};
 ghost use Rattle.bib_spec.specs.Text.{folded};
 ghost use Rattle.bib_units.specs.Labels.{label_seen};
 ghost use Rattle.bib_fields.specs.PartsSeen.{part_seen};
+ghost use Rattle.bib_places.specs.OwnedLabels.{owned_seen};
 ghost use Rattle.bib_places.specs.ConflictsSeen.{change_seen, conflict_seen};
-ghost use Rattle.merge_run.specs.Lines.{line, label_words, name_words, part_words, change_lines, conflict_lines, lost_line, told_lines};
+ghost use Rattle.merge_run.specs.Lines.{line, label_words, name_words, part_words, change_lines, conflict_lines, key_line, lost_line, use_line, told_lines};
 
-use bib_merge::{Change, ChangedPart, Conflict, Label};
+use bib_merge::{Change, ChangedPart, Conflict, KeyConflict, Label, LostUse};
 use bib_text::Text;
 use std::alloc::{AllocError, Global};
 
@@ -134,25 +135,33 @@ fn add_line(
     Ok(())
 }
 
-/// Adds the lines of a conflict.
-fn add_lines(alloc: Global, out: &mut Vec<u8>, conflict: &Conflict<'_>) -> Result<(), AllocError>
-    ensures { OnOk result (out.new.items ≡ out.old.items ++ change_lines (label_seen conflict.now.label) (change_seen conflict.now.change)) }
+/// Adds the lines of a conflict over the unit with this label.
+fn add_change(
+    alloc: Global,
+    out: &mut Vec<u8>,
+    label: Label<'_>,
+    change: &Change,
+) -> Result<(), AllocError>
+    ensures { OnOk result (out.new.items ≡ out.old.items ++ change_lines (label_seen label.entry) (change_seen change.now)) }
 {
-    match &conflict.change {
-        Change::Changed(parts) => add_part_lines(alloc, out, conflict.label, parts.as_slice())?,
-        Change::BothAdded => add_line(alloc, out, b"both added ", conflict.label)?,
-        Change::RemovedByOurs => add_line(alloc, out, b"removed by ours ", conflict.label)?,
-        Change::RemovedByTheirs => add_line(alloc, out, b"removed by theirs ", conflict.label)?,
+    match change {
+        Change::Changed(parts) => add_part_lines(alloc, out, label, parts.as_slice())?,
+        Change::BothAdded => add_line(alloc, out, b"both added ", label)?,
+        Change::RemovedByOurs => add_line(alloc, out, b"removed by ours ", label)?,
+        Change::RemovedByTheirs => add_line(alloc, out, b"removed by theirs ", label)?,
     }
     Ok(())
 }
 
+/// Adds the lines of a conflict.
+fn add_lines(alloc: Global, out: &mut Vec<u8>, conflict: &Conflict) -> Result<(), AllocError>
+    ensures { OnOk result (out.new.items ≡ out.old.items ++ change_lines (owned_seen conflict.now.label) (change_seen conflict.now.change)) }
+{
+    add_change(alloc, out, conflict.label.as_label(), &conflict.change)
+}
+
 /// Adds the lines of these conflicts, in order.
-fn add_conflicts(
-    alloc: Global,
-    out: &mut Vec<u8>,
-    conflicts: &[Conflict<'_>],
-) -> Result<(), AllocError>
+fn add_conflicts(alloc: Global, out: &mut Vec<u8>, conflicts: &[Conflict]) -> Result<(), AllocError>
     ensures { OnOk result (out.new.items ≡ out.old.items ++ conflict_lines (map conflict_seen conflicts.now)) }
 {
     'conflicts: for k in 0..conflicts.len() {
@@ -181,16 +190,67 @@ fn add_all_lost(alloc: Global, out: &mut Vec<u8>, lost: &[Text]) -> Result<(), A
     Ok(())
 }
 
-/// The lines of these conflicts, in order, and of the entries with these keys, which have lost their parents.
+/// Adds the line of an entry to which each side gave another key.
+fn add_key(alloc: Global, out: &mut Vec<u8>, conflict: &KeyConflict) -> Result<(), AllocError>
+    ensures { OnOk result (out.new.items ≡ out.old.items ++ key_line conflict.now) }
+{
+    out.extend_from_slice(b"conflict key ")?;
+    add_lower(alloc, out, conflict.key.as_slice())?;
+    out.push(b' ')?;
+    add_lower(alloc, out, conflict.ours.as_slice())?;
+    out.push(b' ')?;
+    add_lower(alloc, out, conflict.theirs.as_slice())?;
+    out.push(b'\n')?;
+    Ok(())
+}
+
+/// Adds the line of a use of a macro that has lost its meaning.
+fn add_use(alloc: Global, out: &mut Vec<u8>, lost: &LostUse) -> Result<(), AllocError>
+    ensures { OnOk result (out.new.items ≡ out.old.items ++ use_line lost.now) }
+{
+    out.extend_from_slice(b"conflict macro ")?;
+    out.extend_from_slice(lost.name.as_slice())?;
+    out.extend_from_slice(b" in ")?;
+    add_lower(alloc, out, lost.key.as_slice())?;
+    out.push(b'\n')?;
+    Ok(())
+}
+
+/// Adds the lines of entries to which each side gave another key.
+fn add_keys(alloc: Global, out: &mut Vec<u8>, keys: &[KeyConflict]) -> Result<(), AllocError>
+    ensures { OnOk result (out.new.items ≡ out.old.items ++ flat_map key_line keys.now) }
+{
+    'keys: for k in 0..keys.len() {
+        add_key(alloc, out, &keys[k])?;
+    }
+    Ok(())
+}
+
+/// Adds the lines of these uses of macros, which have lost their meaning.
+fn add_uses(alloc: Global, out: &mut Vec<u8>, uses: &[LostUse]) -> Result<(), AllocError>
+    ensures { OnOk result (out.new.items ≡ out.old.items ++ flat_map use_line uses.now) }
+{
+    'uses: for k in 0..uses.len() {
+        add_use(alloc, out, &uses[k])?;
+    }
+    Ok(())
+}
+
+/// The lines of entries to which each side gave another key, of conflicts, in order, of the entries with these keys, which have lost
+/// their parents, and of these uses of macros, which have lost their meaning.
 pub(crate) fn told_lines(
     alloc: Global,
-    conflicts: &[Conflict<'_>],
+    keys: &[KeyConflict],
+    conflicts: &[Conflict],
     lost: &[Text],
+    uses: &[LostUse],
 ) -> Result<Text, AllocError>
-    ensures { IfOk result (λ lines. lines ≡ told_lines (map conflict_seen conflicts.now) lost.now) }
+    ensures { IfOk result (λ lines. lines ≡ told_lines keys.now (map conflict_seen conflicts.now) lost.now uses.now) }
 {
     let mut out = Vec::new(alloc);
+    add_keys(alloc, &mut out, keys)?;
     add_conflicts(alloc, &mut out, conflicts)?;
     add_all_lost(alloc, &mut out, lost)?;
+    add_uses(alloc, &mut out, uses)?;
     Ok(Text::from_vec(out))
 }

@@ -2,9 +2,9 @@
 use Rattle.std.proofs.Common.{◌≡◌, Bool, true, false, ◌||◌, List, [], ◌∷◌, ◌++◌, Option, refl, ◌∙◌}
 use Rattle.std.specs.List.{list_any}
 use Rattle.merge_spec.specs.Units.{Unit}
-use Rattle.merge_spec.specs.ThreeWay.{Outcome, Ours, Theirs, Mixed, Gone, Both}
+use Rattle.merge_spec.specs.ThreeWay.{Outcome, Ours, Theirs, Mixed, Gone, Both, are_both}
 use Rattle.merge_spec.specs.Merged.{Place, unit_at}
-use Rattle.merge_spec.specs.Conflicts.{Conflict, conflict_over, conflicts_of, are_both, is_any}
+use Rattle.merge_spec.specs.Conflicts.{Conflict, conflict_over, conflicts_of, is_any}
 use Rattle.merge_spec.specs.Laws.{conflicts_are_all_told}
 
 -- one place more

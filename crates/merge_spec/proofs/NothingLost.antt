@@ -1,12 +1,12 @@
 -- No unit of a side is lost in a merge.
-use Rattle.std.proofs.Common.{◌≡◌, ◌<◌, ◌≤◌, ◌+◌, ℕ, zero, suc, Bool, true, false, cond, ◌&&◌, ◌||◌, ◌==◌, List, [], ◌∷◌, Option, None, Some, is_none, is_some, map, length, slice_get, count_by, refl, sym, ◌∙◌, ap, subst, arith, ⊎_elim}
+use Rattle.std.proofs.Common.{◌≡◌, ◌<◌, ◌≤◌, ◌+◌, ℕ, zero, suc, Bool, true, false, cond, ◌&&◌, ◌||◌, ◌==◌, List, [], ◌∷◌, Option, None, Some, is_none, is_some, map, length, slice_get, count_by, refl, sym, ◌∙◌, ap, subst, arith, ⊎_elim, ◌⊎◌, inl, inr}
 use Rattle.std.specs.List.{list_all, list_any, range_with_len}
-use Rattle.std.proofs.lemmas.Bool.{cases_Bool, and_parts, and_from, or_cases, true≢false, eqb-true, cases_order}
+use Rattle.std.proofs.lemmas.Bool.{cases_Bool, cond-true, cond-false, and_parts, and_from, or_cases, true≢false, eqb-true, cases_order}
 use Rattle.std.proofs.lemmas.List.Sums.{sum_by-cons}
 use Rattle.std.proofs.lemmas.Option.{slice_get-get_or}
-use Rattle.merge_spec.specs.Units.{Unit}
-use Rattle.merge_spec.specs.ThreeWay.{Outcome, Ours, Theirs, Mixed, Gone, Both, is_left, is_unchanged, may_become}
-use Rattle.merge_spec.specs.Merged.{Place, unit_at, is_number, are_once, is_settled, is_merge, are_seldom, share_label}
+use Rattle.merge_spec.specs.Units.{Unit, Label}
+use Rattle.merge_spec.specs.ThreeWay.{Outcome, Ours, Theirs, Mixed, Gone, Both, are_both, is_left, is_unchanged, may_become}
+use Rattle.merge_spec.specs.Merged.{Place, unit_at, is_number, are_once, may_come, is_removed_and_named, is_settled, is_merge, are_seldom, share_label}
 use Rattle.merge_spec.specs.Laws.{is_ours_kept, is_theirs_kept, nothing_of_ours_is_lost, nothing_of_theirs_is_lost}
 
 -- a test that all numbers of a range pass
@@ -117,25 +117,53 @@ theirs_kept b o (Some t) Gone there may =
     and_false true = refl
     and_false false = refl
 
+-- of two versions that stay, each is kept
+both_ours : (b o t : Option Unit) (outcome : Outcome) → are_both outcome ≡ true → is_ours_kept b o t outcome ≡ true
+both_ours b o t Ours both = absurd (true≢false (sym both))
+both_ours b o t Theirs both = absurd (true≢false (sym both))
+both_ours b o t (Mixed kind key space rows) both = absurd (true≢false (sym both))
+both_ours b o t Gone both = absurd (true≢false (sym both))
+both_ours b o t Both both = refl
+
+both_theirs : (b o t : Option Unit) (outcome : Outcome) → are_both outcome ≡ true → is_theirs_kept b o t outcome ≡ true
+both_theirs b o t Ours both = absurd (true≢false (sym both))
+both_theirs b o t Theirs both = absurd (true≢false (sym both))
+both_theirs b o t (Mixed kind key space rows) both = absurd (true≢false (sym both))
+both_theirs b o t Gone both = absurd (true≢false (sym both))
+both_theirs b o t Both both = refl
+
+-- what may come of units: both versions stay, or what may become of them
+come : (given : List Label) (b o t : Option Unit) (outcome : Outcome) → may_come given b o t outcome ≡ true → (are_both outcome ≡ true) ⊎ (may_become b o t outcome ≡ true)
+come given b o t outcome may =
+    ⊎_elim (λ e. inl (sym (cond-true (is_removed_and_named given b o t) (are_both outcome) (may_become b o t outcome) e) ∙ may))
+    (λ e. inr (sym (cond-false (is_removed_and_named given b o t) (are_both outcome) (may_become b o t outcome) e) ∙ may))
+    (cases_Bool (is_removed_and_named given b o t))
+
 -- what becomes of the units of a settled place is what may
-settled_may : (base ours theirs : List Unit) (p : Place) → is_settled base ours theirs p ≡ true →
-    may_become (unit_at base p.base) (unit_at ours p.ours) (unit_at theirs p.theirs) p.outcome ≡ true
-settled_may base ours theirs p settled = (and_parts _ _ (and_parts _ _ settled).0).1
+settled_may : (given : List Label) (base ours theirs : List Unit) (p : Place) → is_settled given base ours theirs p ≡ true →
+    may_come given (unit_at base p.base) (unit_at ours p.ours) (unit_at theirs p.theirs) p.outcome ≡ true
+settled_may given base ours theirs p settled = (and_parts _ _ (and_parts _ _ settled).0).1
+
+our_unit_kept : (given : List Label) (b o t : Option Unit) (outcome : Outcome) → is_none o ≡ false → may_come given b o t outcome ≡ true → is_ours_kept b o t outcome ≡ true
+our_unit_kept given b o t outcome there may = ⊎_elim (both_ours b o t outcome) (ours_kept b o t outcome there) (come given b o t outcome may)
+
+their_unit_kept : (given : List Label) (b o t : Option Unit) (outcome : Outcome) → is_none t ≡ false → may_come given b o t outcome ≡ true → is_theirs_kept b o t outcome ≡ true
+their_unit_kept given b o t outcome there may = ⊎_elim (both_theirs b o t outcome) (theirs_kept b o t outcome there) (come given b o t outcome may)
 
 pub nothing-of_ours_is_lost : nothing_of_ours_is_lost
-nothing-of_ours_is_lost base ours theirs places merge n h =
+nothing-of_ours_is_lost given base ours theirs places merge n h =
     let parts = and_parts _ _ merge in
     let settled = and_parts _ _ parts.0 in
     let once = and_parts _ _ settled.0 in
-    any_and_all (λ p. is_number n p.ours) (is_settled base ours theirs) _
-    (λ p at is. and_from _ _ at (ours_kept (unit_at base p.base) (unit_at ours p.ours) (unit_at theirs p.theirs) p.outcome (unit_there ours n p.ours h at) (settled_may base ours theirs p is)))
+    any_and_all (λ p. is_number n p.ours) (is_settled given base ours theirs) _
+    (λ p at is. and_from _ _ at (our_unit_kept given (unit_at base p.base) (unit_at ours p.ours) (unit_at theirs p.theirs) p.outcome (unit_there ours n p.ours h at) (settled_may given base ours theirs p is)))
     places (at_a_place (length ours) n (λ p. p.ours) places (and_parts _ _ once.0).1 h) settled.1
 
 pub nothing-of_theirs_is_lost : nothing_of_theirs_is_lost
-nothing-of_theirs_is_lost base ours theirs places merge n h =
+nothing-of_theirs_is_lost given base ours theirs places merge n h =
     let parts = and_parts _ _ merge in
     let settled = and_parts _ _ parts.0 in
     let once = and_parts _ _ settled.0 in
-    any_and_all (λ p. is_number n p.theirs) (is_settled base ours theirs) _
-    (λ p at is. and_from _ _ at (theirs_kept (unit_at base p.base) (unit_at ours p.ours) (unit_at theirs p.theirs) p.outcome (unit_there theirs n p.theirs h at) (settled_may base ours theirs p is)))
+    any_and_all (λ p. is_number n p.theirs) (is_settled given base ours theirs) _
+    (λ p at is. and_from _ _ at (their_unit_kept given (unit_at base p.base) (unit_at ours p.ours) (unit_at theirs p.theirs) p.outcome (unit_there theirs n p.theirs h at) (settled_may given base ours theirs p is)))
     places (at_a_place (length theirs) n (λ p. p.theirs) places once.1 h) settled.1

@@ -109,14 +109,6 @@ conflict_at base ours theirs p = conflict_over (unit_at base p.base) (unit_at ou
 abbrev pub conflicts_of : List Unit → List Unit → List Unit → List Place → List Conflict
 conflicts_of base ours theirs places = flat_map (conflict_at base ours theirs) places
 
--- both versions of the unit stay, between markers
-abbrev pub are_both : Outcome → Bool
-are_both Ours = false
-are_both Theirs = false
-are_both (Mixed kind key space rows) = false
-are_both Gone = false
-are_both Both = true
-
 -- there is a conflict
 abbrev pub is_any : List Conflict → Bool
 is_any [] = false

@@ -3,7 +3,7 @@ use Rattle.std.specs.Prelude.{ℕ, ◌≡◌, Bool, true, false, List, [], ◌�
 use Rattle.bib_spec.specs.Text.{Text}
 use Rattle.bib_spec.specs.Tree.{Part, Braced, Quoted, Digits, Macro, Value, Assignment, Row, Brace, Opening, Tree, DefinitionTree, EntryTree}
 use Rattle.bib_spec.specs.Reading.{Item, Reading, bytes_of}
-use Rattle.merge_spec.specs.Units.{units_of, first_space, EntryLabel}
+use Rattle.merge_spec.specs.Units.{Label, units_of, first_space, EntryLabel}
 use Rattle.merge_spec.specs.ThreeWay.{Outcome, Ours, Theirs, Mixed, Gone, Both}
 use Rattle.merge_spec.specs.Merged.{Place, merged_bytes, is_merge}
 use Rattle.merge_spec.specs.Conflicts.{ChangedPart, Whole, TheType, TheField, Changed, Conflict, conflicts_of}
@@ -64,18 +64,30 @@ rows t u = line (codes "t") t [] ∷ (line (codes "u") u (codes "\n") ∷ [])
 abbrev pub a : Item
 a = misc (codes "a") (rows (digits (codes "1")) (digits (codes "2")))
 
+-- the same entry with the key `k`
+abbrev pub k : Item
+k = misc (codes "k") (rows (digits (codes "1")) (digits (codes "2")))
+
 -- a place where these units meet
 abbrev pub place : Option ℕ → Option ℕ → Option ℕ → Outcome → Text → Place
 place b o t outcome space = record { base = b; ours = o; theirs = t; outcome = outcome; space = space }
 
--- the places are a merge of the three files, and these are its bytes
-pub record Merges (base ours theirs : Reading) (places : List Place) (text : Text) : Type 0 where
-  pub merge : is_merge (units_of base) (units_of ours) (units_of theirs) places ≡ true
+-- the places are a merge of the three files, in which the sides gave units these labels, and these are its bytes
+pub record MergesWith (given : List Label) (base ours theirs : Reading) (places : List Place) (text : Text) : Type 0 where
+  pub merge : is_merge given (units_of base) (units_of ours) (units_of theirs) places ≡ true
   pub bytes : merged_bytes (units_of ours) (units_of theirs) (first_space ours) places ≡ text
 
--- the places are no merge of the three files
+-- the same, where no side gave a unit its label
+abbrev pub Merges : Reading → Reading → Reading → List Place → Text → Type 0
+Merges = MergesWith []
+
+-- the places are no merge of the three files, in which the sides gave units these labels
+abbrev pub MergesNotWith : List Label → Reading → Reading → Reading → List Place → Type 0
+MergesNotWith given base ours theirs places = is_merge given (units_of base) (units_of ours) (units_of theirs) places ≡ false
+
+-- the same, where no side gave a unit its label
 abbrev pub MergesNot : Reading → Reading → Reading → List Place → Type 0
-MergesNot base ours theirs places = is_merge (units_of base) (units_of ours) (units_of theirs) places ≡ false
+MergesNot = MergesNotWith []
 
 -- LF
 abbrev pub lf : Text
@@ -203,6 +215,12 @@ pub record RemovedIsInConflict : Type 0 where
 -- one side removes an entry, the other writes it in other bytes: it goes
 abbrev pub RemovedGoes : Type 0
 RemovedGoes = Merges (file (a ∷ [])) (file []) (a_with (rows (braced (codes "1")) two)) (place (Some 0) None (Some 0) Gone lf ∷ []) []
+
+-- we gave the entry `a` the key `k`, and they removed it: a conflict, and the entry does not go
+pub record RenamedIsInConflict : Type 0 where
+  pub conflict : MergesWith (EntryLabel (codes "k") ∷ []) (file (k ∷ [])) (file (k ∷ [])) (file []) (place (Some 0) (Some 0) None Both lf ∷ [])
+      (codes "<<<<<<< ours\n@misc{k,\n  t = 1,\n  u = 2\n}\n=======\n>>>>>>> theirs\n")
+  pub gone : MergesNotWith (EntryLabel (codes "k") ∷ []) (file (k ∷ [])) (file (k ∷ [])) (file []) (place (Some 0) (Some 0) None Gone lf ∷ [])
 
 -- ---- order
 

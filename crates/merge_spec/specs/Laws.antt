@@ -2,10 +2,10 @@
 use Rattle.std.specs.Prelude.{ℕ, ◌≡◌, ◌<◌, Bool, true, ◌&&◌, ◌||◌, List, ◌++◌, length, Option, is_none}
 use Rattle.std.specs.List.{flat_map, list_any}
 use Rattle.bib_spec.specs.Reading.{Reading, bytes_of}
-use Rattle.merge_spec.specs.Units.{Unit, spaced_bytes, first_space, spaced_of}
-use Rattle.merge_spec.specs.ThreeWay.{Outcome, Ours, Theirs, Mixed, Gone, Both, is_left, is_unchanged}
+use Rattle.merge_spec.specs.Units.{Unit, Label, spaced_bytes, first_space, spaced_of}
+use Rattle.merge_spec.specs.ThreeWay.{Outcome, Ours, Theirs, Mixed, Gone, Both, are_both, is_left, is_unchanged}
 use Rattle.merge_spec.specs.Merged.{Place, unit_at, is_number, is_merge}
-use Rattle.merge_spec.specs.Conflicts.{conflicts_of, are_both, is_any}
+use Rattle.merge_spec.specs.Conflicts.{conflicts_of, is_any}
 
 -- the white space before the first unit, and the units with the white space after each, are the file
 abbrev pub units_are_the_file : Type 0
@@ -31,13 +31,13 @@ is_theirs_kept b o t Gone = is_none o && is_unchanged b t
 
 -- no unit of ours is lost in a merge
 abbrev pub nothing_of_ours_is_lost : Type 0
-nothing_of_ours_is_lost = (base ours theirs : List Unit) (places : List Place) → is_merge base ours theirs places ≡ true →
+nothing_of_ours_is_lost = (given : List Label) (base ours theirs : List Unit) (places : List Place) → is_merge given base ours theirs places ≡ true →
     (n : ℕ) → n < length ours →
     list_any (λ p. is_number n p.ours && is_ours_kept (unit_at base p.base) (unit_at ours p.ours) (unit_at theirs p.theirs) p.outcome) places ≡ true
 
 -- no unit of theirs is lost in a merge
 abbrev pub nothing_of_theirs_is_lost : Type 0
-nothing_of_theirs_is_lost = (base ours theirs : List Unit) (places : List Place) → is_merge base ours theirs places ≡ true →
+nothing_of_theirs_is_lost = (given : List Label) (base ours theirs : List Unit) (places : List Place) → is_merge given base ours theirs places ≡ true →
     (n : ℕ) → n < length theirs →
     list_any (λ p. is_number n p.theirs && is_theirs_kept (unit_at base p.base) (unit_at ours p.ours) (unit_at theirs p.theirs) p.outcome) places ≡ true
 

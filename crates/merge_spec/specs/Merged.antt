@@ -1,12 +1,12 @@
 -- The merge of two files that come from a common one.
-use Rattle.std.specs.Prelude.{ℕ, Bool, true, false, ◌&&◌, ◌||◌, not, ◌==◌, nat_le, List, [], ◌∷◌, ◌++◌, length, map, filter_map, Option, Some, None, option_and_then, slice_get, count_by, codes, IsTrue}
-use Rattle.std.specs.List.{flat_map, list_all, range_with_len}
+use Rattle.std.specs.Prelude.{ℕ, Bool, true, false, ◌&&◌, ◌||◌, not, ◌==◌, nat_le, List, [], ◌∷◌, ◌++◌, length, map, filter_map, Option, Some, None, option_and_then, slice_get, count_by, codes, if◌then◌else◌, IsTrue}
+use Rattle.std.specs.List.{flat_map, list_all, list_any, range_with_len}
 use Rattle.std.specs.Option.{option_map_or}
 use Rattle.bib_spec.specs.Bytes.{line_feed}
 use Rattle.bib_spec.specs.Text.{Text, is_space}
 use Rattle.bib_spec.specs.Tree.{Row, Entry, Tree, CommentTree, DefinitionTree, PreambleTree, EntryTree, tree_bytes}
 use Rattle.merge_spec.specs.Units.{Unit, unit_bytes, Label, label_of, same_label}
-use Rattle.merge_spec.specs.ThreeWay.{Outcome, Ours, Theirs, Mixed, Gone, Both, entry_of, entry_like, may_become}
+use Rattle.merge_spec.specs.ThreeWay.{Outcome, Ours, Theirs, Mixed, Gone, Both, entry_of, entry_like, are_both, may_become}
 
 -- One place of a merge: the numbers of the units that meet there, one of each file at most, what becomes of them, and the white
 -- space after it.
@@ -68,13 +68,30 @@ share_label (Some a) (Some b) = same_label (label_of a) (label_of b)
 share_label None b = true
 share_label (Some a) None = true
 
+-- the unit has one of these labels
+abbrev pub is_among : List Label → Unit → Bool
+is_among labels u = list_any (same_label (label_of u)) labels
+
+-- one side took away a unit of the common file, and to the form of it that the other side has, that side gave its name
+abbrev pub is_removed_and_named : List Label → Option Unit → Option Unit → Option Unit → Bool
+is_removed_and_named given (Some b) (Some o) None = is_among given o
+is_removed_and_named given (Some b) None (Some t) = is_among given t
+is_removed_and_named given (Some b) (Some o) (Some t) = false
+is_removed_and_named given (Some b) None None = false
+is_removed_and_named given None o t = false
+
+-- What may become of a unit, where the sides gave units these labels: a unit to which one side gave its name does not go because the
+-- other side took it away, but both versions of it stay.
+abbrev pub may_come : List Label → Option Unit → Option Unit → Option Unit → Outcome → Bool
+may_come given b o t outcome = if is_removed_and_named given b o t then are_both outcome else may_become b o t outcome
+
 -- the units of a place have one label, and may become what becomes of them; only white space follows
-abbrev pub is_settled : List Unit → List Unit → List Unit → Place → Bool
-is_settled base ours theirs p =
+abbrev pub is_settled : List Label → List Unit → List Unit → List Unit → Place → Bool
+is_settled given base ours theirs p =
     let b = unit_at base p.base in
     let o = unit_at ours p.ours in
     let t = unit_at theirs p.theirs in
-    share_label b o && share_label b t && share_label o t && may_become b o t p.outcome && list_all is_space p.space
+    share_label b o && share_label b t && share_label o t && may_come given b o t p.outcome && list_all is_space p.space
 
 -- the label of what is at the place once, or nothing
 abbrev pub label_left : Option Unit → Option Unit → Outcome → Option Label
@@ -100,10 +117,10 @@ are_seldom ours theirs places =
     let merged = labels_left ours theirs places in
     list_all (is_seldom (map label_of ours) (map label_of theirs) merged) merged
 
--- The places are a merge of three files: each unit of each file is at one place, what becomes of it is what may, and no unit is
--- there twice because each side has added it.
-abbrev pub is_merge : List Unit → List Unit → List Unit → List Place → Bool
-is_merge base ours theirs places =
+-- The places are a merge of three files, in which the sides gave units these labels: each unit of each file is at one place, what
+-- becomes of it is what may, and no unit is there twice because each side has added it.
+abbrev pub is_merge : List Label → List Unit → List Unit → List Unit → List Place → Bool
+is_merge given base ours theirs places =
     are_once (length base) (map (λ p. p.base) places) && are_once (length ours) (map (λ p. p.ours) places)
     && are_once (length theirs) (map (λ p. p.theirs) places)
-    && list_all (is_settled base ours theirs) places && are_seldom ours theirs places
+    && list_all (is_settled given base ours theirs) places && are_seldom ours theirs places

@@ -158,6 +158,14 @@ pub data Outcome : Type 0 where
   -- both, between markers
   Both : Outcome
 
+-- both versions of the unit stay, between markers
+abbrev pub are_both : Outcome → Bool
+are_both Ours = false
+are_both Theirs = false
+are_both (Mixed kind key space rows) = false
+are_both Gone = false
+are_both Both = true
+
 -- the entry that a tree is, with what macros stand for before it
 abbrev pub entry_with : Macros → Option Tree → Option (Macros × Entry)
 entry_with macros (Some (EntryTree e)) = Some (macros, e)

@@ -1,6 +1,6 @@
 //! What the definitions say of small files.
 
-ghost use Rattle.merge_spec.specs.Examples.{BothAreAdded, SameIsAddedOnce, DifferentAreInConflict, BothFieldsAreSet, FieldIsAdded, FieldIsDropped, FieldIsInConflict, PartsAreTold, OtherBytesAreNoChange, RemovedIsInConflict, RemovedGoes, MovedAndSet, ChildHasLostItsParent};
+ghost use Rattle.merge_spec.specs.Examples.{BothAreAdded, SameIsAddedOnce, DifferentAreInConflict, BothFieldsAreSet, FieldIsAdded, FieldIsDropped, FieldIsInConflict, PartsAreTold, OtherBytesAreNoChange, RemovedIsInConflict, RemovedGoes, RenamedIsInConflict, MovedAndSet, ChildHasLostItsParent};
 
 /// Entries that both sides add are there once each; two that differ and have one key are a conflict.
 pub fn added_entries_are_there_once()
@@ -19,10 +19,11 @@ pub fn fields_are_merged_one_by_one()
     ensures other { OtherBytesAreNoChange }
 {}
 
-/// An entry that one side removes goes if the other left it; if the other changed it, this is a conflict.
+/// An entry that one side removes goes if the other left it; if the other changed it or gave it its key, this is a conflict.
 pub fn removed_entries_go_or_are_in_conflict()
     ensures conflict { RemovedIsInConflict }
     ensures gone { RemovedGoes }
+    ensures renamed { RenamedIsInConflict }
 {}
 
 /// An entry that one side moves has the fields that the other side set.

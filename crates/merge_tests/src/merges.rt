@@ -1,6 +1,6 @@
 //! Merges of small files.
 
-use bib_merge::{Change, ChangedPart, Conflict, Label, MergeFault, merge};
+use bib_merge::{Change, ChangedPart, Conflict, MergeFault, OwnedLabel, merge};
 use std::alloc::Global;
 use std::test::Fail;
 
@@ -61,9 +61,9 @@ fn is_change(change: &Change, told: &[Told]) -> bool {
 }
 
 /// Whether the conflict is over the entry with this key.
-fn is_over(conflict: &Conflict<'_>, key: &[u8]) -> bool {
-    match conflict.label {
-        Label::Entry(other) => other == key,
+fn is_over(conflict: &Conflict, key: &[u8]) -> bool {
+    match &conflict.label {
+        OwnedLabel::Entry(other) => other.as_slice() == key,
         _ => false,
     }
 }
@@ -116,6 +116,53 @@ fn has_lost(alloc: Global, base: &[u8], ours: &[u8], theirs: &[u8], key: &[u8]) 
     }
 }
 
+/// Whether in the merge of these files, which has no conflict, this macro has lost its meaning in the entry with this key, and no
+/// other has.
+fn has_lost_use(
+    alloc: Global,
+    base: &[u8],
+    ours: &[u8],
+    theirs: &[u8],
+    name: &[u8],
+    key: &[u8],
+) -> bool {
+    match merge(alloc, base, ours, theirs) {
+        Ok(found) => {
+            let uses = found.uses.as_slice();
+            found.conflicts.is_empty()
+                && found.lost.is_empty()
+                && uses.len() == 1
+                && uses[0].name.as_slice() == name
+                && uses[0].key.as_slice() == key
+        }
+        Err(_) => false,
+    }
+}
+
+/// Whether each side of the merge of these files, which has no other conflict, gave the entry with this key another key: these.
+fn has_keys(
+    alloc: Global,
+    base: &[u8],
+    ours: &[u8],
+    theirs: &[u8],
+    key: &[u8],
+    our_key: &[u8],
+    their_key: &[u8],
+) -> bool {
+    match merge(alloc, base, ours, theirs) {
+        Ok(found) => {
+            let keys = found.keys.as_slice();
+            found.conflicts.is_empty()
+                && found.lost.is_empty()
+                && keys.len() == 1
+                && keys[0].key.as_slice() == key
+                && keys[0].ours.as_slice() == our_key
+                && keys[0].theirs.as_slice() == their_key
+        }
+        Err(_) => false,
+    }
+}
+
 /// Whether there is no merge of these files since one of them has a fault of this kind.
 fn has_fault(alloc: Global, base: &[u8], ours: &[u8], theirs: &[u8], wanted: Wanted) -> bool {
     match (merge(alloc, base, ours, theirs), wanted) {
@@ -137,7 +184,12 @@ enum Wanted {
 /// Whether the merge of these files has no conflict.
 fn agrees(alloc: Global, base: &[u8], ours: &[u8], theirs: &[u8]) -> bool {
     match merge(alloc, base, ours, theirs) {
-        Ok(found) => found.conflicts.is_empty() && found.lost.is_empty(),
+        Ok(found) => {
+            found.keys.is_empty()
+                && found.conflicts.is_empty()
+                && found.lost.is_empty()
+                && found.uses.is_empty()
+        }
         Err(_) => false,
     }
 }
@@ -321,6 +373,67 @@ fn a_fault_names_its_file_or_the_merged_one(rt: HostRuntime) -> Result<(), Fail>
     assert!(rt; has_fault(alloc, b"@misc{", b"@misc{", good, Wanted::Base(1)));
     assert!(rt; has_fault(alloc, good, b"@misc{", b"}@a", Wanted::Ours(1)));
     assert!(rt; has_fault(alloc, good, good, b"@misc{a,t=}", Wanted::Theirs(5)));
+    Ok(())
+}
+
+#[test]
+fn a_use_that_finds_another_definition_is_told(rt: HostRuntime) -> Result<(), Fail> {
+    let alloc = rt.alloc();
+    let base = b"@string{x = 1}\n@misc{k, t = 1}\n";
+    // we define the macro again before the entry, and they use it there
+    let again = b"@string{x = 1}\n@string{x = 2}\n@misc{k, t = 1}\n";
+    let used = b"@string{x = 1}\n@misc{k, t = X}\n";
+    assert!(rt;
+        gives(
+            alloc,
+            base,
+            again,
+            used,
+            b"@string{x = 1}\n@string{x = 2}\n@misc{k, t = X}\n"
+        )
+    );
+    assert!(rt; has_lost_use(alloc, base, again, used, b"x", b"k"));
+    assert!(rt; has_lost_use(alloc, base, used, again, b"x", b"k"));
+    // we remove the definition
+    assert!(rt; has_lost_use(alloc, base, b"@misc{k, t = 1}\n", used, b"x", b"k"));
+    // we give the macro another name, and their use follows
+    assert!(rt;
+        merges(
+            alloc,
+            base,
+            b"@string{y = 1}\n@misc{k, t = 1}\n",
+            used,
+            b"@string{y = 1}\n@misc{k, t = y}\n"
+        )
+    );
+    // we move the entry behind a second definition, and they use the macro there
+    let before = b"@string{x = 1}\n@misc{k, t = 1}\n@string{x = 2}\n";
+    let behind = b"@string{x = 1}\n@string{x = 2}\n@misc{k, t = 1}\n";
+    let theirs = b"@string{x = 1}\n@misc{k, t = x}\n@string{x = 2}\n";
+    assert!(rt; has_lost_use(alloc, before, behind, theirs, b"x", b"k"));
+    // the use moves with its entry, if they left it
+    assert!(rt;
+        merges(
+            alloc,
+            theirs,
+            b"@string{x = 1}\n@string{x = 2}\n@misc{k, t = x}\n",
+            theirs,
+            b"@string{x = 1}\n@string{x = 2}\n@misc{k, t = x}\n"
+        )
+    );
+    Ok(())
+}
+
+#[test]
+fn a_use_that_finds_an_added_definition_is_not_told(rt: HostRuntime) -> Result<(), Fail> {
+    let alloc = rt.alloc();
+    let base = b"@misc{k, t = 1}\n";
+    let used = b"@misc{k, t = x, month = jan}\n";
+    let defined = b"@string{x = 1}\n@string{JAN = 2}\n@misc{k, t = 1}\n";
+    let merged = b"@string{x = 1}\n@string{JAN = 2}\n@misc{k, t = x, month = jan}\n";
+    assert!(rt; merges(alloc, base, defined, used, merged));
+    assert!(rt; merges(alloc, base, used, defined, merged));
+    assert!(rt; agrees(alloc, used, used, used));
     Ok(())
 }
 
@@ -525,6 +638,128 @@ fn values_of_macros_say_what_they_stand_for(rt: HostRuntime) -> Result<(), Fail>
             b"@string{m = {x}}\n@misc{a, t = m, u = 2}\n",
             b"@string{m = {x}}\n@misc{a, t = {x}, u = 1}\n",
             b"@string{m = {x}}\n@misc{a, t = m, u = 2}\n"
+        )
+    );
+    Ok(())
+}
+
+#[test]
+fn a_child_follows_its_renamed_parent(rt: HostRuntime) -> Result<(), Fail> {
+    let alloc = rt.alloc();
+    let renamed = b"@misc{k,\n  t = 1,\n  u = 2\n}\n";
+    let child = b"@misc{a,\n  t = 1,\n  u = 2\n}\n@misc{c, crossref = {A}}\n";
+    let both = b"@misc{k,\n  t = 1,\n  u = 2\n}\n@misc{c, crossref = {k}}\n";
+    assert!(rt; merges(alloc, B, renamed, child, both));
+    assert!(rt; merges(alloc, B, child, renamed, both));
+    Ok(())
+}
+
+#[test]
+fn a_use_follows_its_renamed_macro(rt: HostRuntime) -> Result<(), Fail> {
+    let alloc = rt.alloc();
+    let base = b"@string{m={A}}\n@misc{a,t=m}\n";
+    let renamed = b"@string{n={A}}\n@misc{a,t=n}\n";
+    let used = b"@string{m={A}}\n@misc{a,t=m}\n@misc{b,t=m}\n";
+    let both = b"@string{n={A}}\n@misc{a,t=n}\n@misc{b,t=n}\n";
+    assert!(rt; merges(alloc, base, renamed, used, both));
+    assert!(rt; merges(alloc, base, used, renamed, both));
+    Ok(())
+}
+
+#[test]
+fn a_field_is_set_in_a_renamed_entry(rt: HostRuntime) -> Result<(), Fail> {
+    let alloc = rt.alloc();
+    let base = b"@misc{a, t = 1}\n@misc{b, t = 2}\n@misc{c, crossref = {a}, t = 3}\n";
+    let keys = b"@misc{k1, t = 1}\n@misc{k2, t = 2}\n@misc{k3, crossref = {k1}, t = 3}\n";
+    let set = b"@misc{a, t = 1}\n@misc{b, t = {x}}\n@misc{c, crossref = {a}, t = 3}\n";
+    let both = b"@misc{k1, t = 1}\n@misc{k2, t = {x}}\n@misc{k3, crossref = {k1}, t = 3}\n";
+    assert!(rt; merges(alloc, base, keys, set, both));
+    assert!(rt; merges(alloc, base, set, keys, both));
+    Ok(())
+}
+
+#[test]
+fn two_new_keys_of_one_entry_are_told(rt: HostRuntime) -> Result<(), Fail> {
+    let alloc = rt.alloc();
+    let ours = b"@misc{o, t = 1}\n";
+    let theirs = b"@misc{p, t = 1}\n@misc{c, crossref = {p}}\n";
+    let both = b"@misc{o, t = 1}\n@misc{c, crossref = {o}}\n";
+    assert!(rt; gives(alloc, b"@misc{a, t = 1}\n", ours, theirs, both));
+    assert!(rt; has_keys(alloc, b"@misc{a, t = 1}\n", ours, theirs, b"a", b"o", b"p"));
+    // the same key is no conflict, in whatever case
+    assert!(rt;
+        merges(
+            alloc,
+            b"@misc{a, t = 1}\n",
+            b"@misc{o, t = 1}\n",
+            b"@misc{O, t = 1}\n",
+            b"@misc{o, t = 1}\n"
+        )
+    );
+    Ok(())
+}
+
+#[test]
+fn a_renamed_entry_that_the_other_side_removed_is_in_conflict(rt: HostRuntime) -> Result<(), Fail> {
+    let alloc = rt.alloc();
+    let base = b"@misc{a, t = 1}\n";
+    let renamed = b"@misc{k, t = 1}\n";
+    let by_theirs = b"<<<<<<< ours\n@misc{k, t = 1}\n=======\n>>>>>>> theirs\n";
+    let by_ours = b"<<<<<<< ours\n=======\n@misc{k, t = 1}\n>>>>>>> theirs\n";
+    assert!(rt; gives(alloc, base, renamed, b"", by_theirs));
+    assert!(rt; gives(alloc, base, b"", renamed, by_ours));
+    assert!(rt; has_conflict(alloc, base, renamed, b"", Told::RemovedByTheirs, b"k"));
+    assert!(rt; has_conflict(alloc, base, b"", renamed, Told::RemovedByOurs, b"k"));
+    Ok(())
+}
+
+#[test]
+fn a_renamed_macro_that_the_other_side_removed_is_in_conflict(rt: HostRuntime) -> Result<(), Fail> {
+    let alloc = rt.alloc();
+    let base = b"@string{m={A}}\n@misc{a,t=m}\n";
+    let renamed = b"@string{n={A}}\n@misc{a,t=n}\n";
+    let removed = b"@misc{a,t={A}}\n";
+    let both = b"<<<<<<< ours\n@string{n={A}}\n=======\n>>>>>>> theirs\n@misc{a,t={A}}\n";
+    assert!(rt; gives(alloc, base, renamed, removed, both));
+    Ok(())
+}
+
+#[test]
+fn a_name_is_not_followed_if_it_is_taken_or_its_owner_is_unknown(
+    rt: HostRuntime,
+) -> Result<(), Fail> {
+    let alloc = rt.alloc();
+    let ours = b"@misc{k, t = 1}\n";
+    // they gave the key to another entry
+    assert!(rt;
+        has_conflict(
+            alloc,
+            b"@misc{a, t = 1}\n",
+            ours,
+            b"@misc{a, t = 1}\n@misc{k, t = 2}\n",
+            Told::BothAdded,
+            b"k"
+        )
+    );
+    // they took the entry away, and gave the key to another one
+    assert!(rt;
+        has_conflict(
+            alloc,
+            b"@misc{a, t = 1}\n",
+            ours,
+            b"@misc{k, t = 2}\n",
+            Told::BothAdded,
+            b"k"
+        )
+    );
+    // two entries say the same: which of them got the key is not known
+    assert!(rt;
+        has_lost(
+            alloc,
+            b"@misc{a, t = 1}\n@misc{b, t = 1}\n",
+            b"@misc{k, t = 1}\n@misc{l, t = 1}\n",
+            b"@misc{a, t = 1}\n@misc{b, t = 1}\n@misc{c, crossref = {a}}\n",
+            b"c"
         )
     );
     Ok(())

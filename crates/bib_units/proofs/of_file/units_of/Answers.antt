@@ -27,7 +27,7 @@ items-init g c r reads =
     let len = ap length (c.front.ensures r reads) in
     walked-first r c.split_at.result.1.now c.add_text.new.units.items (c.split_at.ensures.back ∙ rest-of c.args.file.now r (length c.front.result.now) bytes len)
     (subst (λ t. AreUnits r c.add_text.new.units.items (text_units months t)) (c.split_at.ensures.front ∙ front-of c.args.file.now r (length c.front.result.now) bytes len)
-    (c.in_ok-add_text.ensures r months [] (subst (λ (l : List UnitView). AreUnits r l []) (sym c.new-units.ensures.items) tt)))
+    (c.in_ok-add_text.ensures r months [] (subst (λ (l : List UnitView). AreUnits r l []) (sym c.in_ok-units.ensures.items) tt)))
 
 -- how long an item is
 whole : (view : View) (i : Item) (body trail : Text) → view ≡ view_of i → body ≡ view.body → trail ≡ view.trail → length body + length trail ≡ length (item_bytes i)

@@ -10,3 +10,7 @@ returns-clause-conflict c = record { conflict = record { merge = refl; bytes = r
 pub returns-clause-gone : goal.returns-clause-gone
 unfolding months field_text is_space
 returns-clause-gone c = record { merge = refl; bytes = refl }
+
+pub returns-clause-renamed : goal.returns-clause-renamed
+unfolding months field_text is_space
+returns-clause-renamed c = record { conflict = record { merge = refl; bytes = refl }; gone = refl }

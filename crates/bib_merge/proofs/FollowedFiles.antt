@@ -1,0 +1,66 @@
+-- The merge of three files in which names are followed.
+use Rattle.std.proofs.Common.{◌≡◌, List, [], map, refl, sym, ◌∙◌, ap, subst}
+use Rattle.bib_spec.specs.Text.{Text}
+use Rattle.merge_spec.specs.Units.{Label}
+use Rattle.merge_spec.specs.Conflicts.{Conflict}
+use Rattle.bib_renames.specs.declared.conflict.KeyConflict.{KeyConflict}
+use Rattle.bib_renames.specs.declared.following.Followed.{Followed}
+use Rattle.bib_renames.specs.Renamed.{AreKeyConflicts, IsFollowed}
+use Rattle.bib_uses.specs.declared.losing.LostUse.{LostUse}
+use Rattle.bib_renames.proofs.Renamings.{stays}
+use Rattle.bib_merge.specs.Merges.{label_given, IsMergeOfThree, IsMergeOfFiles}
+
+-- the same files
+pub of_texts : (given : List Label) (b o t base ours theirs text : Text) (conflicts : List Conflict) (lost : List Text) (uses : List LostUse) → b ≡ base → o ≡ ours → t ≡ theirs → IsMergeOfThree given b o t text conflicts lost uses → IsMergeOfThree given base ours theirs text conflicts lost uses
+of_texts given b o t base ours theirs text conflicts lost uses is_b is_o is_t merge =
+    subst (λ (f : Text). IsMergeOfThree given f ours theirs text conflicts lost uses) is_b
+    (subst (λ (f : Text). IsMergeOfThree given b f theirs text conflicts lost uses) is_o (subst (λ (f : Text). IsMergeOfThree given b o f text conflicts lost uses) is_t merge))
+
+-- the files in which names are followed
+pub followed : (base ours theirs b o t text : Text) (files : Followed) (keys : List KeyConflict) (conflicts : List Conflict) (lost : List Text) (uses : List LostUse) → base ≡ b → ours ≡ o → theirs ≡ t → keys ≡ files.keys.items
+    → IsFollowed b o t files → IsMergeOfThree (map label_given files.given.items) files.base files.ours files.theirs text conflicts lost uses → IsMergeOfFiles base ours theirs text keys conflicts lost uses
+followed base ours theirs b o t text files keys conflicts lost uses is_b is_o is_t is_keys follows merge =
+    let at : IsFollowed base ours theirs files =
+    subst (λ (f : Text). IsFollowed f ours theirs files) (sym is_b)
+    (subst (λ (f : Text). IsFollowed b f theirs files) (sym is_o) (subst (λ (f : Text). IsFollowed b o f files) (sym is_t) follows)) in
+    record {
+      base_file = files.base;
+      ours_file = files.ours;
+      theirs_file = files.theirs;
+      names = at.names;
+      given = files.given.items;
+      named = at.given;
+      merge = merge;
+      told = subst (AreKeyConflicts base ours theirs) (sym is_keys) at.keys;
+    }
+
+-- the files as they are, if there is no name to follow
+pub unfollowed : (base ours theirs text : Text) (keys : List KeyConflict) (conflicts : List Conflict) (lost : List Text) (uses : List LostUse) → keys ≡ [] → IsMergeOfThree [] base ours theirs text conflicts lost uses
+    → IsMergeOfFiles base ours theirs text keys conflicts lost uses
+unfollowed base ours theirs text keys conflicts lost uses none merge = record {
+  base_file = base;
+  ours_file = ours;
+  theirs_file = theirs;
+  names = record {
+    between = base;
+    ours_in_base = stays ours base base base refl;
+    theirs_in_base = stays theirs base base base refl;
+    theirs_in_ours = stays theirs base ours ours refl;
+    ours_in_theirs = stays ours base theirs theirs refl;
+  };
+  given = [];
+  named = λ rb reads_b ro reads_o rt reads_t. tt;
+  merge = merge;
+  told = subst (AreKeyConflicts base ours theirs) (sym none) (λ rb reads_b ro reads_o rt reads_t. tt);
+}
+
+-- the same of a merge that is told again, in which no side gave a name to what the other took away
+pub told_again : (base ours theirs text was : Text) (keys : List KeyConflict) (given : List Label) (conflicts found : List Conflict) (lost gone : List Text) (uses left : List LostUse) → keys ≡ [] → given ≡ [] → text ≡ was → conflicts ≡ found → lost ≡ gone → uses ≡ left
+    → IsMergeOfThree given base ours theirs was found gone left → IsMergeOfFiles base ours theirs text keys conflicts lost uses
+told_again base ours theirs text was keys given conflicts found lost gone uses left no_keys none is same_conflicts same_lost same_uses merge =
+    unfollowed base ours theirs text keys conflicts lost uses no_keys
+    (subst (λ (t : Text). IsMergeOfThree [] base ours theirs t conflicts lost uses) (sym is)
+    (subst (λ (cs : List Conflict). IsMergeOfThree [] base ours theirs was cs lost uses) (sym same_conflicts)
+    (subst (λ (ls : List Text). IsMergeOfThree [] base ours theirs was found ls uses) (sym same_lost)
+    (subst (λ (us : List LostUse). IsMergeOfThree [] base ours theirs was found gone us) (sym same_uses)
+    (subst (λ (gs : List Label). IsMergeOfThree gs base ours theirs was found gone left) none merge)))))

@@ -1,0 +1,21 @@
+use Rattle.std.proofs.lemmas.Result.{err_from_is_err_and}
+use Rattle.bib_merge.specs.Merges.{IsMergedFault}
+use Rattle.bib_merge.proofs.merging.losses_in.Goals as goal
+
+pub returns-in_err-has_items-clause-fault : goal.returns-in_err-has_items-clause-fault
+returns-in_err-has_items-clause-fault c =
+    let p = err_from_is_err_and c.from_residual.result c.from_residual.ensures.1 in
+    rw (p.1, p.2) IsMergedFault.no_memory
+
+pub returns-then-not-branch-clause-fault : goal.returns-then-not-branch-clause-fault
+returns-then-not-branch-clause-fault c = IsMergedFault.would_merge
+
+pub returns-in_err-keys-clause-fault : goal.returns-in_err-keys-clause-fault
+returns-in_err-keys-clause-fault c =
+    let p = err_from_is_err_and c.from_residual-in_err-keys.result c.from_residual-in_err-keys.ensures.1 in
+    rw (p.1, p.2) IsMergedFault.no_memory
+
+pub returns-in_err-uses-clause-fault : goal.returns-in_err-uses-clause-fault
+returns-in_err-uses-clause-fault c =
+    let p = err_from_is_err_and c.from_residual-in_err-uses.result c.from_residual-in_err-uses.ensures.1 in
+    rw (p.1, p.2) IsMergedFault.no_memory

@@ -1,0 +1,27 @@
+use Rattle.std.proofs.Common.{sym, subst}
+use Rattle.std.proofs.lemmas.Result.{err_from_is_err_and}
+use Rattle.bib_spec.specs.Reading.{Reads}
+use Rattle.bib_spec.specs.Texts.{IsOpenable}
+use Rattle.bib_merge.specs.Merges.{IsMergedFault}
+use Rattle.bib_merge.proofs.merging.tell.Goals as goal
+
+pub returns-clause-lost : goal.returns-clause-lost
+returns-clause-lost c ro reads_o rt reads_t rm reads_m =
+    c.in_ok-lost.ensures.keys ro reads_o rt reads_t rm (subst (λ t. Reads t rm) (sym c.as_slice.ensures) reads_m)
+
+pub returns-clause-uses : goal.returns-clause-uses
+returns-clause-uses c ro reads_o rt reads_t rm reads_m =
+    c.in_ok-lost.ensures.uses ro reads_o rt reads_t rm (subst (λ t. Reads t rm) (sym c.as_slice.ensures) reads_m)
+
+pub returns-clause-opens : goal.returns-clause-opens
+returns-clause-opens c = subst IsOpenable c.as_slice.ensures c.in_ok-lost.ensures.opens
+
+pub returns-in_err-conflicts-clause-fault : goal.returns-in_err-conflicts-clause-fault
+returns-in_err-conflicts-clause-fault c =
+    let p = err_from_is_err_and c.from_residual.result c.from_residual.ensures.1 in
+    rw (p.1, p.2) IsMergedFault.no_memory
+
+pub returns-in_err-lost-clause-fault : goal.returns-in_err-lost-clause-fault
+returns-in_err-lost-clause-fault c =
+    let p = err_from_is_err_and c.from_residual-in_err-lost.result c.from_residual-in_err-lost.ensures.1 in
+    rw (p.1, p.2) c.in_err-lost.ensures.fault

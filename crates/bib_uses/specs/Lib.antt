@@ -1,0 +1,3 @@
+pub mod Uses
+pub mod Lost
+pub mod Seen
