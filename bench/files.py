@@ -503,6 +503,7 @@ CONTENTS = {
     **{"%s %d" % (name, count): lambda make=make, count=count: make(1000 * count)
        for name, make in (("in order", lines_of_entries), ("in opposite order", lambda count: reversed_lines(lines_of_entries(count))),
                           ("of one name", lambda count: lines_of_entries(count, b"k")),
+                          ("of one name but the last", lambda count: lines_of_entries(count - 1, b"k") + b"@misc{k, t = {x}}\n"),
                           ("of one name from the end", lambda count: reversed_lines(lines_of_entries(count, b"k"))))
        for count in (50, 100)},
     "great": great,
