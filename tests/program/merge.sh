@@ -230,3 +230,15 @@ if test -w /dev/full; then
     when_shell_runs '"$program" merge base.bib ours.bib theirs.bib >/dev/full'; ends_with 3; writes_nothing; says 'bibkeep: write fault'
     ours_is "$(a '{x}' 2)"
 fi
+
+# ---- laws over files that are made at random
+
+if command -v python3 >/dev/null; then
+    # a program that is given may be slow, under an emulator
+    case ${1-} in
+    '') count=100 ;;
+    *) count=20 ;;
+    esac
+    export count
+    when_shell_runs 'python3 "$root/tests/program/merges.py" "$program" "$count" | sed "s/^[0-9]* passed, 0 failed$//"'; ends_with 0; prints '\n'; says_nothing
+fi
