@@ -26,7 +26,7 @@ typedef struct {
 typedef struct {
     uint32_t n;
     uint8_t depth;
-    bool print, new_journal, no_journal, all_or_nothing, dropped, at, strict, latex, raw;
+    bool print, new_journal, no_journal, all_or_nothing, dropped, at, strict, latex, raw, skipped, plain;
 } core_options;
 
 bool bib_c_new(core_handle *);
@@ -114,6 +114,7 @@ const char *bibkeep_error_name(int number) {
     case 62: return "NoEnd";
     case 63: return "EmptyType";
     case 64: return "UnbalancedText";
+    case 65: return "SkippedLine";
     case 71: return "BadScript";
     case BIBKEEP_MISUSE: return "Misuse";
     default: return "";
@@ -427,7 +428,8 @@ static core_options core_of(const bibkeep_options *given) {
     return (core_options){given->number,           (uint8_t)given->depth,      given->print != 0,
                           given->new_journal != 0, given->no_journal != 0,     given->all_or_nothing != 0,
                           given->dropped != 0,     given->at != 0,             given->strict != 0,
-                          given->latex != 0,       given->raw != 0};
+                          given->latex != 0,       given->raw != 0,             given->skipped != 0,
+                          given->plain != 0};
 }
 
 /* Gives out what a command gave, and tells what came of it. */

@@ -5,7 +5,7 @@
 
 _bibkeep() {
     local commands='cat check lint show entry cite labels json names newkeys edit undo redo log forget ris extract import insert merge diff explain help'
-    local verbs='set drop add remove move set-type rename-key rename-field rename-macro inline introduce undefine regenerate'
+    local verbs='set drop add remove move set-type rename-key rename-field rename-macro inline introduce undefine define set-macro regenerate'
     local IFS=$' \t\n' words=() current='' begun='' quote='' tilde='' is_target='' own=() has_ended='' options='' i
 
     COMPREPLY=()
@@ -48,12 +48,12 @@ _bibkeep() {
             labels) options='--depth --aux --before --after --hints --help' ;;
             json) options='--depth --raw --aux --before --after --hints --help' ;;
             show | names | newkeys) options='--depth --before --after --hints --help' ;;
-            ris) options='--depth --dropped --aux --before --after --hints --help' ;;
+            ris) options='--depth --dropped --plain --aux --before --after --hints --help' ;;
             extract) options='--aux --before --after --hints --help' ;;
             edit) options='--print --new-journal --no-journal --all-or-nothing --hints --help' ;;
             insert) options='--print --new-journal --no-journal --hints --help' ;;
             merge) options='--print --hints --help' ;;
-            import) options='--print --new-journal --no-journal --latex --hints --help' ;;
+            import) options='--print --new-journal --no-journal --latex --skipped --strict --hints --help' ;;
             undo | redo) options='--steps --print --hints --help' ;;
             *) options='--hints --help' ;;
         esac
@@ -72,7 +72,7 @@ _bibkeep() {
         edit:3)
             case $verb in
                 set | drop | remove | move | rename-key) _bibkeep_offer < <(_bibkeep_keys "$file") ;;
-                inline | rename-macro | undefine) _bibkeep_offer < <(_bibkeep_macros "$file") ;;
+                inline | rename-macro | undefine | set-macro) _bibkeep_offer < <(_bibkeep_macros "$file") ;;
                 add) _bibkeep_offer < <(_bibkeep_positions "$file") ;;
             esac
             ;;
@@ -229,7 +229,7 @@ _bibkeep_faults() {
         8:TextTooLong 9:FileTooLong 10:Memory 11:NoSuchEntry 12:BadSplice 13:NoSuchFault 21:TooManyCommas 22:UnbalancedName
         23:BadTemplate 24:NotUtf8 31:BadKey 32:BadName 33:BadValue 34:BadPosition 35:NotFound 36:Ambiguous 37:KeyInUse
         38:NameInUse 39:Referred 40:WouldMerge 41:JournalFull 46:NoScript 51:NothingToUndo 52:NothingToRedo
-        53:BadJournal 54:JournalMismatch 55:StepOpen 56:NoOpenStep 61:NoStart 62:NoEnd 63:EmptyType 64:UnbalancedText 71:BadScript'
+        53:BadJournal 54:JournalMismatch 55:StepOpen 56:NoOpenStep 61:NoStart 62:NoEnd 63:EmptyType 64:UnbalancedText 65:SkippedLine 71:BadScript'
     local list=() fault
     read -r -d '' -a list <<<"$faults"
     for fault in "${list[@]}"; do

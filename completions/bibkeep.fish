@@ -74,7 +74,7 @@ function __bibkeep_faults
         8:TextTooLong 9:FileTooLong 10:Memory 11:NoSuchEntry 12:BadSplice 13:NoSuchFault 21:TooManyCommas 22:UnbalancedName \
         23:BadTemplate 24:NotUtf8 31:BadKey 32:BadName 33:BadValue 34:BadPosition 35:NotFound 36:Ambiguous 37:KeyInUse \
         38:NameInUse 39:Referred 40:WouldMerge 41:JournalFull 46:NoScript 51:NothingToUndo 52:NothingToRedo \
-        53:BadJournal 54:JournalMismatch 55:StepOpen 56:NoOpenStep 61:NoStart 62:NoEnd 63:EmptyType 64:UnbalancedText 71:BadScript
+        53:BadJournal 54:JournalMismatch 55:StepOpen 56:NoOpenStep 61:NoStart 62:NoEnd 63:EmptyType 64:UnbalancedText 65:SkippedLine 71:BadScript
     string replace : \t $faults
     if test -n (commandline -ct)
         string replace -r '.*:' '' $faults
@@ -116,10 +116,13 @@ complete -c bibkeep -n '__fish_seen_subcommand_from edit import insert' -l new-j
 complete -c bibkeep -n '__fish_seen_subcommand_from edit import insert' -l no-journal -d 'Reads and writes no journal: this change cannot be undone, nor any before it'
 complete -c bibkeep -n '__fish_seen_subcommand_from edit' -l all-or-nothing -d 'Stores nothing if a line of the script is refused'
 complete -c bibkeep -n '__fish_seen_subcommand_from import' -l latex -d 'Writes texts so that LaTeX prints them as they are, except url and doi'
+complete -c bibkeep -n '__fish_seen_subcommand_from import' -l skipped -d 'Lists the lines that are skipped, each with its number in the input'
+complete -c bibkeep -n '__fish_seen_subcommand_from import' -l strict -d 'Refuses the input if a line of it would be skipped'
 complete -c bibkeep -n '__fish_seen_subcommand_from entry' -l at -d 'Prints a line before each entry: the number of its item, counted from 0, its line and its column'
 complete -c bibkeep -n '__fish_seen_subcommand_from undo redo' -l steps -x -d 'How many changes, from 1 to 65535'
 complete -c bibkeep -n '__fish_seen_subcommand_from show labels json names newkeys ris' -l depth -x -d 'From how many parents in a chain an entry inherits, from 1 to 8'
 complete -c bibkeep -n '__fish_seen_subcommand_from ris' -l dropped -d 'Lists the fields that RIS leaves out, as key, tab and field, instead of the RIS text'
+complete -c bibkeep -n '__fish_seen_subcommand_from ris' -l plain -d 'Writes texts without braces, and accents of LaTeX as Unicode, except url and doi'
 complete -c bibkeep -n '__fish_seen_subcommand_from cite labels json ris extract' -l aux -r -k -a '(__fish_complete_suffix .aux)' -d 'An aux file of LaTeX; the keys that it cites come after the KEYs'
 complete -c bibkeep -n '__fish_seen_subcommand_from lint' -l aux -r -k -a '(__fish_complete_suffix .aux)' -d 'An aux file of LaTeX; the keys that it cites are looked up'
 complete -c bibkeep -n '__fish_seen_subcommand_from check lint show cite labels json names newkeys ris extract' -l before -r -k -a '(__fish_complete_suffix .bib)' -d 'A BibTeX file that is read before F; may be given several times'
@@ -133,9 +136,9 @@ complete -c bibkeep -n '__bibkeep_has 1 merge; or __bibkeep_has 2 merge; or __bi
 complete -c bibkeep -n '__bibkeep_has 2 diff' -k -a '(__fish_complete_suffix .bib)'
 complete -c bibkeep -n '__bibkeep_has 2 show names' -a '(__bibkeep_keys)'
 complete -c bibkeep -n '__bibkeep_has_at_least 2 entry cite labels json ris extract' -a '(__bibkeep_keys)'
-complete -c bibkeep -n '__bibkeep_has 2 edit' -a 'set drop add remove move set-type rename-key rename-field rename-macro inline introduce undefine regenerate'
+complete -c bibkeep -n '__bibkeep_has 2 edit' -a 'set drop add remove move set-type rename-key rename-field rename-macro inline introduce undefine define set-macro regenerate'
 complete -c bibkeep -n '__bibkeep_edits 3 set drop remove move rename-key' -a '(__bibkeep_keys)'
-complete -c bibkeep -n '__bibkeep_edits 3 inline rename-macro undefine' -a '(__bibkeep_macros)'
+complete -c bibkeep -n '__bibkeep_edits 3 inline rename-macro undefine set-macro' -a '(__bibkeep_macros)'
 complete -c bibkeep -n '__bibkeep_has 2 insert' -a '(__bibkeep_positions)'
 complete -c bibkeep -n '__bibkeep_edits 3 add' -a '(__bibkeep_positions)'
 complete -c bibkeep -n '__bibkeep_edits 4 move' -a '(__bibkeep_positions)'

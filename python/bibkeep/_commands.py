@@ -44,6 +44,8 @@ def run(
     strict: bool = False,
     latex: bool = False,
     raw: bool = False,
+    skipped: bool = False,
+    plain: bool = False,
     aux: Iterable[Word] = (),
     raises: bool = True,
 ) -> Answer:
@@ -66,6 +68,8 @@ def run(
         strict,
         latex,
         raw,
+        skipped,
+        plain,
     )
     words, names = [to_bytes(arg) for arg in args], [to_bytes(name) for name in aux]
     return _answer(_running.run(to_bytes(command), words, _within(options), names, data, journal, input), raises)
@@ -80,6 +84,7 @@ def run_files(
     dropped: bool = False,
     strict: bool = False,
     raw: bool = False,
+    plain: bool = False,
     aux: Iterable[Word] = (),
     raises: bool = True,
 ) -> Answer:
@@ -96,6 +101,7 @@ def run_files(
         dropped=dropped,
         strict=strict,
         raw=raw,
+        plain=plain,
     )
     words, names = [to_bytes(arg) for arg in args], [to_bytes(name) for name in aux]
     files = [(os.fsencode(path), _read(path)) for path in paths]

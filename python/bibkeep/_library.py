@@ -231,6 +231,14 @@ class Library(Mapping[str, Entry]):
         """Removes the definition of a macro that nothing after it uses."""
         self.edit("undefine", macro)
 
+    def define(self, macro: Word, value: Word) -> None:
+        """Defines a macro as a value, as the file writes it, after the definitions before the first entry."""
+        self.edit("define", macro, value)
+
+    def set_macro(self, macro: Word, value: Word) -> None:
+        """Gives a macro another value, as the file writes it."""
+        self.edit("set-macro", macro, value)
+
     def regenerate(self, depth: int = 1) -> None:
         """Gives every entry the key that is made of its names, year and title, with what it inherits at this depth (1 to 8)."""
         self.edit("regenerate", str(depth))

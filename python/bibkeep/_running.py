@@ -44,6 +44,8 @@ class RawOptions(ctypes.Structure):
         ("strict", c_int),
         ("latex", c_int),
         ("raw", c_int),
+        ("skipped", c_int),
+        ("plain", c_int),
         ("aux", POINTER(Lent)),
         ("aux_count", c_size_t),
     ]
@@ -63,6 +65,8 @@ class Options(NamedTuple):
     strict: bool = False
     latex: bool = False
     raw: bool = False
+    skipped: bool = False
+    plain: bool = False
 
 
 class Ran(NamedTuple):
@@ -132,7 +136,7 @@ def run(
     )
     message = taken(answer.message)
     of_new = command == b"diff" and len(args) == 1 and args[0] != b"-" and message.endswith(b" in " + args[0] + b"\n")
-    is_of_input = of_new or 61 <= number <= 64 or message.endswith(b" in standard input\n")
+    is_of_input = of_new or 61 <= number <= 65 or message.endswith(b" in standard input\n")
     source = journal if number == 53 else read if is_of_input else file if isinstance(file, bytes) else taken(file)
     return _ran(answer, exception_of(fault, source) if number else None)
 

@@ -191,7 +191,11 @@ static void commands(void) {
     o.dropped = 1, o.depth = 1;
     CHECK(bibkeep_run(h, text("ris"), &all, 1, &o, text(REFS), NULL, text(""), &a, &e) == 0 && a.status == 0);
     CHECK(bibkeep_run(h, text("json"), &all, 1, &o, text(REFS), NULL, text(""), &a, &e) == BIBKEEP_MISUSE && a.status == 2);
-    o.dropped = 0, o.raw = 1;
+    o.dropped = 0, o.plain = 1;
+    CHECK(bibkeep_run(h, text("ris"), &all, 1, &o, text("@misc{a, title = {{B}}}"), NULL, text(""), &a, &e) == 0);
+    CHECK(is(a.output, "TY  - GEN\nTI  - B\nID  - a\nER  - \n"));
+    CHECK(bibkeep_run(h, text("json"), &all, 1, &o, text(REFS), NULL, text(""), &a, &e) == BIBKEEP_MISUSE && a.status == 2);
+    o.plain = 0, o.raw = 1;
     CHECK(bibkeep_run(h, text("json"), &all, 1, &o, text(REFS), NULL, text(""), &a, &e) == 0 && a.status == 0);
     CHECK(bibkeep_run(h, text("labels"), &all, 1, &o, text(REFS), NULL, text(""), &a, &e) == BIBKEEP_MISUSE && a.status == 2);
     o.raw = 0, o.depth = 0, o.latex = 1;
@@ -201,6 +205,14 @@ static void commands(void) {
     o.latex = 0;
     CHECK(bibkeep_run(h, text("import"), NULL, 0, &o, text(""), NULL, text("TY  - GEN\nTI  - 5 % of A & B\nER  - \n"), &a, &e) == 0);
     CHECK(a.has_file && is(a.file, "@misc{anon,\n  title = {5 % of A & B}\n}\n"));
+    o.skipped = 1;
+    CHECK(bibkeep_run(h, text("import"), NULL, 0, &o, text(""), NULL, text("TY  - GEN\nXX  - 1\nID  - a\nER  - \n"), &a, &e) == 0);
+    CHECK(a.has_file && is(a.output, "added 1 skipped 1\nskipped 2: XX  - 1\n"));
+    CHECK(bibkeep_run(h, text("insert"), NULL, 0, &o, text(REFS), NULL, text(""), &a, &e) == BIBKEEP_MISUSE && a.status == 2);
+    o.skipped = 0, o.strict = 1;
+    CHECK(bibkeep_run(h, text("import"), NULL, 0, &o, text(""), NULL, text("TY  - GEN\nXX  - 1\nID  - a\nER  - \n"), &a, &e) == 65);
+    CHECK(e.has_offset && e.offset == 10 && !a.has_file);
+    o.strict = 0;
     o.depth = 1;
     CHECK(bibkeep_run(h, text("labels"), NULL, 0, &o, text(REFS), NULL, text(""), &a, &e) == BIBKEEP_MISUSE);
     o.aux = two, o.aux_count = 1; /* an aux file that cites no key */

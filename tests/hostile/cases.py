@@ -127,10 +127,23 @@ def imported(file, text, counts, entries, journal_before=None, past=()):
     return stored("import", output, file, text, pieces, file + entries, journal_before, past)
 
 
-def unimported(file, text, refusal, journal_before=None):
+def listed(file, text, counts, lines, entries):
+    """The same with the lines that are skipped."""
+    return Case(
+        words=("import", FILE, "--skipped"),
+        file=file,
+        input=text,
+        reads=(FILE, INPUT),
+        output=b"added %d skipped %d\n" % counts + b"".join(b"skipped %d: %s\n" % line for line in lines),
+        new_file=file + entries,
+        new_journal=journal(file + entries, [[(len(file), b"", entries)]]),
+    )
+
+
+def unimported(file, text, refusal, journal_before=None, options=()):
     """A RIS text that adds nothing to a file."""
     return Case(
-        words=("import", FILE),
+        words=("import", FILE, *options),
         file=file,
         journal=journal_before,
         input=text,
@@ -245,6 +258,7 @@ READING = [
     ),
     Case(("newkeys", FILE), BOOKS, output=b"Lam86\tKnu84\nKnu84\tLam86\n"),
     Case(("ris", FILE, "--dropped", "a"), b"@misc{a, t = 1, year = 2000}", output=b"a\tt\n"),
+    Case(("ris", FILE, "--plain", "a"), b"@misc{a, title = {{\\'e}}}", output=b"TY  - GEN\nTI  - \xc3\xa9\nID  - a\nER  - \n"),
     Case(("labels", FILE, "--depth", "2", "p"), CHAIN, output=b"anon99\tp\n"),
     Case(("ris", FILE, "k1"), KING, output=KING_RIS),
     Case(
@@ -350,6 +364,9 @@ EDITING = [
     edited(b"@misc{a,T=1}@misc{b,t=2}", b"rename-field\tt\tu\n", [(8, b"T", b"u"), (20, b"t", b"u")], b"@misc{a,u=1}@misc{b,u=2}"),
     edited(b"@misc{a,t=1}@misc{b,t=2}", b"rename-field\tt\tu\tB\n", [(20, b"t", b"u")], b"@misc{a,t=1}@misc{b,u=2}"),
     edited(b"@string{m = 1} @misc{a}", b"undefine\tM\n", [(0, b"@string{m = 1}", b"")], b" @misc{a}"),
+    edited(b"@string{m = 1} @misc{a}", b"define\tn\t{x}\n", [(14, b"", b"\n@string{n = {x}}")], b"@string{m = 1}\n@string{n = {x}} @misc{a}"),
+    edited(b"x@misc{a}@string{m = 1}", b"define\tn\t2\n", [(1, b"", b"@string{n = 2}\n")], b"x@string{n = 2}\n@misc{a}@string{m = 1}"),
+    edited(b"@string(m = 1 # n) @misc{a}", b"set-macro\tM\t{x}\n", [(12, b"1 # n", b"{x}")], b"@string(m = {x}) @misc{a}"),
     edited(
         b'@misc{a, t = {x} # "x"}',
         b"introduce\tm\tx\n",
@@ -406,12 +423,14 @@ IMPORTING = [
     imported(b"", LONG_ONE, (1, 1), FIRST),
     imported(FIRST, LONG_ONE, (1, 1), SECOND, journal(FIRST, [FIRST_ADDED]), past=[FIRST_ADDED]),
     imported(b"abc", KING_RIS, (1, 0), KING_ADDED),
+    listed(b"abc", b"mail\n" + KING_RIS + b"\nend", (1, 2), [(1, b"mail"), (2 + KING_RIS.count(b"\n") + 1, b"end")], KING_ADDED),
     # a text without records is a step without pieces
     imported(b"abc", b"", (0, 0), b"", journal_before=REMOVED, past=[REMOVAL]),
     unimported(b"", b"AU  - x\n", b"61 NoStart at 0"),
     unimported(b"abc", b"TY  - BOOK\n", b"62 NoEnd at 11"),
     unimported(b"abc", b"TY  -\nER  -\n", b"63 EmptyType at 0"),
     unimported(b"abc", b"TY  - BOOK\nTI  - a}b\nER  - \n", b"64 UnbalancedText"),
+    unimported(b"", b"TY  - GEN\nXX  - 1\nID  - x\nER  - \n", b"65 SkippedLine at 10", options=("--strict",)),
     unimported(b"", b"TY  - GEN\nID  - x\nER  - \nTY  - GEN\nID  - x\nER  - \n", b"37 KeyInUse"),
     unimported(b"@misc{X}", b"TY  - GEN\nID  - x\nER  - \n", b"37 KeyInUse", journal(b"@misc{X}", [[(0, b"", b"@misc{X}")]])),
     unimported(b"abd", LONG_ONE, b"54 JournalMismatch", REMOVED),

@@ -22,7 +22,7 @@ CRATE = "refusals"
 STANDS_ON = (
     "bib_text folded_map bib_scan bib_faults bib_data bib_pieces bib_value bib_numbers bib_order bib_index bib_entries "
     "bib_definitions bib_items bib_store bib_steps bib_names bib_keys bib_tokens bib_edit bib_journal journal_format "
-    "bib_script ris_text ris_format bib_ris bib_taps bib_shelf bib_extract aux_text"
+    "bib_script ris_text ris_format plain_text bib_ris bib_taps bib_shelf bib_extract bib_paste aux_text"
 )
 # The number of the request that is refused, and how many the program makes before it spends any.
 REFUSED = 400
@@ -39,11 +39,11 @@ ROWS = {
     "flat_stores": 13,
     "paged_stores": 13,
     "names": 14,
-    "flat_edits": 27,
-    "paged_edits": 27,
-    "plans": 28,
+    "flat_edits": 30,
+    "paged_edits": 30,
+    "plans": 31,
     "journals": 8,
-    "references": 14,
+    "references": 15,
     "shelves": 5,
     "extracts": 4,
 }

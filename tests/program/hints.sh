@@ -57,6 +57,13 @@ when_edited remove podc; hinted '39 Referred' '  the crossref of ld86 in line 7 
   first type, for each of them: bibkeep edit hinted.bib drop ld87 crossref'
 when_edited undefine cup; hinted '39 Referred' "  a value in line 9 uses the macro cup
   bibkeep edit hinted.bib inline cup writes the macro's text for its uses, and removes the definition"
+when_edited define CUP '{C}'; hinted '38 NameInUse' "  the macro CUP is defined in line 1 already
+  bibkeep edit hinted.bib set-macro CUP '{C}' gives it another value"
+when_edited define 1x '{C}'; hinted '32 BadName' '  1x can be no name of a macro'
+when_edited set-macro cup C U; hinted '71 BadScript' '  its words are: set-macro NAME VALUE
+  bibkeep help edit says more'
+when_edited set-macro twice '{c}'; hinted '36 Ambiguous' '  the macro twice is defined 2 times: lines 2 and 3
+  remove one of the two in an editor, and then type: bibkeep forget hinted.bib'
 when_edited rename-field Crossref x; hinted '32 BadName' '  a crossref names a parent: no field loses this name, and none gets it'
 when_edited rename-field title 1x; hinted '32 BadName' '  1x can be no name of a field'
 when_edited rename-field x y; hinted '35 NotFound' '  no entry of hinted.bib has a field x'
@@ -66,7 +73,7 @@ when_edited rename-field x y ld86; hinted '35 NotFound' '  the entry ld86 has no
 when_edited rename-field title year podc; hinted '36 Ambiguous' '  the entry podc in line 9 would have the field year twice'
 when_edited set-type knuth string; hinted '32 BadName' '  string is no type of an entry, such as book or article'
 when_edited retype knuth book; hinted '71 BadScript' '  retype is no edit
-  the edits: set drop add remove move set-type rename-key rename-field rename-macro inline introduce undefine regenerate; in a script also group end'
+  the edits: set drop add remove move set-type rename-key rename-field rename-macro inline introduce undefine define set-macro regenerate; in a script also group end'
 when_edited drop knuth; hinted '71 BadScript' '  its words are: drop KEY FIELD
   bibkeep help edit says more'
 when explain --hints foo; ends_with 1; hinted '13 NoSuchFault' '  foo is neither the number nor the name of a fault'
@@ -113,6 +120,10 @@ when_inserted '@misc{new}\n\n@misc{Knuth}\n@misc{podc}\n'; hinted '37 KeyInUse' 
 when_inserted '@misc{}@misc{}\n@misc{new}\n@misc{other}@misc{NEW}\n'; hinted '37 KeyInUse' '  lines 2 and 3 of the input have the same key: NEW
   give the entry of the input another key, or leave it out'
 when_inserted '@misc{new}\n@string{other = 1}@string{TWICE = "c"}\n'; hinted '38 NameInUse' '  line 2 of the input defines the macro TWICE, as line 2 of hinted.bib does
+  leave the definition out of the input, if both give the same text'
+when_inserted '@misc{new}\n@string{cup = "CUP"}@misc{b}\n@string{twice = "c"}\n'; hinted '38 NameInUse' '  line 3 of the input defines the macro twice, as line 2 of hinted.bib does
+  leave the definition out of the input, if both give the same text'
+when_inserted '@string{cup = "CUP"} see\n@misc{b}\n'; hinted '38 NameInUse' '  line 1 of the input defines the macro cup, as line 1 of hinted.bib does
   leave the definition out of the input, if both give the same text'
 when_inserted '@misc{new}' 11; hinted '34 BadPosition' '  hinted.bib has 10 items, counted from 0; that number is the end of the file'
 when_inserted '@misc{new}' new.bib; hinted '34 BadPosition' '  new.bib is no position
@@ -174,6 +185,9 @@ given hinted.ris 'TY  - BOOK\nTI  - One\nER  - \nTY  - BOOK\nTI  - a}b\nER  - \n
 input=hinted.ris; when import hinted.bib --hints; ends_with 1; hinted '64 UnbalancedText' '  record 2 of the input, line 5: TI  - a}b'
 given hinted.ris 'TY  - BOOK\nTI  - a}b\nUR  - c}d\nER  - \n'
 input=hinted.ris; when import hinted.bib --latex --hints; ends_with 1; hinted '64 UnbalancedText' '  record 1 of the input, line 3: UR  - c}d'
+given hinted.ris 'TY  - BOOK\nXX  - q\nER  - \n'
+input=hinted.ris; when import hinted.bib --strict --hints; ends_with 1; hinted '65 SkippedLine at 11' '  line 2 of the input: XX  - q
+  all such lines are listed by: bibkeep import hinted.bib --skipped < FILE'
 given hinted.ris 'TY  - BOOK\nTI  - One\nTY  - BOOK\nER  - \n'
 input=hinted.ris; when import hinted.bib --hints; ends_with 1; says 'bibkeep: 62 NoEnd at 21
   the record that begins in line 1 of the input has no line ER before line 3  TI  - One

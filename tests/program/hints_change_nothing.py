@@ -15,7 +15,7 @@ import tempfile
 
 NAMES = [b"a", b"B", b"k\x1b[31m", b"$(id)", b"it's", b"\xe9", b"\xc2\x9b", b"x" * 255, b"m", b"jan", b"crossref", b"a:b", b"", b"\x7f", b"%", b"-k"]
 VALUES = [b"{x}", b'"y"', b"12", b"m", b"jan", b"none", b"{a}", b"{b} # m", b"{", b"x y", b"", b" {x}", b"a,b", b"{k\x1b[31m}"]
-VERBS = [b"set", b"drop", b"add", b"remove", b"move", b"rename-key", b"rename-field", b"rename-macro", b"inline", b"introduce", b"undefine", b"regenerate", b"group", b"end", b"set-type", b"retype"]
+VERBS = [b"set", b"drop", b"add", b"remove", b"move", b"rename-key", b"rename-field", b"rename-macro", b"inline", b"introduce", b"undefine", b"define", b"set-macro", b"regenerate", b"group", b"end", b"set-type", b"retype"]
 RIS = [b"TY  - BOOK", b"TI  - a", b"TI  - }", b"AU  - x, y, z, w", b"ID  - a", b"ID  - \x1b", b"ER  - ", b"XX  - q", b"", b"@misc{a}", b"TY  -"]
 
 

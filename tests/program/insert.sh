@@ -146,12 +146,30 @@ refused_case '37 KeyInUse' '@misc{a}@misc{A}' '@book{A}'
 refused_case '37 KeyInUse' '@misc{a}' '@book{b}@misc{c}@book{B}' 0
 refused_case '37 KeyInUse' '@string{m = 1}@misc{a}' '@string{m = 1}@book{a}' 0
 refused_case '38 NameInUse' '@string{m = 1}@misc{a}' '@string{M = 2}@book{b}' 0
-refused_case '38 NameInUse' '@string{m = {x}}' '@string{m = {x}}'
+refused_case '38 NameInUse' '@string{m = {x}}' '@string{m = {y}}'
 refused_case '40 WouldMerge' '@misc{a} see @book @misc{c}' '{b}@misc{d}' after:a
 refused_case '40 WouldMerge' '@misc{a}\n@book' '{b}'
 # Between two items text that is read as an item only together is refused; with the text before it ended by a word it is not.
 case_of '@misc{a}\nmail x@book' 'b}\n@misc{d}\n' 1 '@misc{a}\nmail x@book\nb}\n@misc{d}\n'
-refused_case '38 NameInUse' '@string{m = 1}@misc{a} @book' '{ @string{m = 1}'
+refused_case '38 NameInUse' '@string{m = 1}@misc{a} @book' '{ @string{m = 2}'
+
+# A definition that says what the file says there is left out, with the white space behind it, and the rest is put in.
+case_of '@string{m = {x}}\n' '@string{M = "x"}\n\n@book{b, t = m}\n' 1 '@string{m = {x}}\n@book{b, t = m}\n'
+case_of '@string{m = 12}\n@misc{a}\n' '% of a page\n@book{b}\n@string(M={12})\n' 1 '@string{m = 12}\n@misc{a}\n% of a page\n@book{b}\n'
+case_of '@string{m = {x}}' '@string{m = {x}}' 0 '@string{m = {x}}'
+case_of '@string{m = {x}}\n@misc{a}\n' '% all\n@string{m = {x}}\n@string{n = {y}}\n@string{m = "x"} @book{b, t = m # n}' 1 '@string{m = {x}}\n% all\n@string{n = {y}}\n@book{b, t = m # n}@misc{a}\n' 1
+# What the macro stands for at the position counts: there, before its definition, or after the second.
+refused_case '38 NameInUse' '@misc{a}\n@string{m = {x}}' '@string{m = {x}}@book{b}' 0
+refused_case '38 NameInUse' '@string{m = {x}}\n@string{m = {y}}' '@string{m = {x}}@book{b}'
+case_of '@string{m = {x}}\n@string{m = {y}}' '@string{m = {y}}@book{b}' 1 '@string{m = {x}}\n@string{m = {y}}\n@book{b}'
+case_of '@string{m = {x}}\n@string{m = {y}}' '@string{m = {x}}@book{b}' 1 '@string{m = {x}}\n@book{b}@string{m = {y}}' 1
+# A value of several parts, or of a macro, is not compared; text behind a definition keeps it; and other reasons come as before.
+refused_case '38 NameInUse' '@string{m = {xy}}' '@string{m = "x" # "y"}@book{b}'
+refused_case '38 NameInUse' '@string{n = 1}@string{m = n}' '@string{m = n}@book{b}'
+refused_case '38 NameInUse' '@string{m = {x}}' '@string{m = {x}} see @book{b}'
+refused_case '38 NameInUse' '@string{m = {x}}' '@string{m = {x}}@string{m = {y}}'
+refused_case '37 KeyInUse' '@string{m = {x}}@misc{b}' '@string{m = {x}}@book{b}'
+refused_case '40 WouldMerge' '@string{m = 1}@misc{a} @book' '{ @string{m = 1}'
 
 # A text of more than 16 MiB is refused whole, and so is a file that would be longer.
 given_insert '@misc{a}' ''

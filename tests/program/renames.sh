@@ -1,4 +1,5 @@
-# `bibkeep edit` with lines that rename keys, fields and macros, inline, introduce and undefine macros, and make keys.
+# `bibkeep edit` with lines that rename keys, fields and macros, inline, introduce, define and undefine macros, give them values, and
+# make keys.
 # shellcheck shell=sh
 
 two='@misc{a}\n@misc{b}\n'
@@ -48,6 +49,11 @@ makes '@misc{a, t = 1}' 'rename-field\tt\tT' '@misc{a, T = 1}'
 makes '@misc{a, t = m}\n@string{M = 1}\n@misc{b, t = {m}}\n' 'undefine\tm' '@misc{a, t = m}\n\n@misc{b, t = {m}}\n'
 makes 'x@string{m = m # {y}}z' 'undefine\tm' 'xz'
 makes '@string{jan = {J}}@string{n = {m}}@misc{a, t = n}' 'undefine\tJAN' '@string{n = {m}}@misc{a, t = n}'
+makes '@string{m = 1}\n\n%% x\n@misc{a}\n@string{n = 2}' 'define\tk\tm # {x}' '@string{m = 1}\n@string{k = m # {x}}\n\n%% x\n@misc{a}\n@string{n = 2}'
+makes '@misc{a, t = m}' 'define\tm\t"x"' '@string{m = "x"}\n@misc{a, t = m}'
+makes '%% x\n' 'define\tjan\t1' '%% x\n@string{jan = 1}\n'
+makes '@string(M = 1 # n)@misc{a}' 'set-macro\tm\t{x} # 2' '@string(M = {x} # 2)@misc{a}'
+makes '@string{m = 1}@string{n = m}@misc{a, t = n}' 'set-macro\tm\tjan' '@string{m = jan}@string{n = m}@misc{a, t = n}'
 makes "$crossed" 'regenerate' "$made"
 makes "$crossed" 'regenerate\nregenerate' "$made"
 makes '@misc{,year=1999}@misc{x,year=1999}@misc{c,year=2000,crossref={anon99A}}' 'regenerate' '@misc{anon99,year=1999}@misc{anon99b,year=1999}@misc{anon00,year=2000,crossref={anon99A}}'
@@ -99,6 +105,14 @@ refuses 39 Referred "$month" 'undefine\tjan'
 refuses 39 Referred '@string{m = 1}@string{n = {x} # M}' 'undefine\tm'
 refuses 39 Referred '@string{m = 1}@preamble{m}' 'undefine\tm'
 refuses 40 WouldMerge 'a@foo \n@string{m = 1}{b' 'undefine\tm'
+refuses 32 BadName "$uses" 'define\t1\t{'
+refuses 33 BadValue "$uses" 'define\tm\t{'
+refuses 38 NameInUse "$uses" 'define\tM\t1'
+refuses 38 NameInUse '@misc{a}@string{m = 1}' 'define\tm\t2'
+refuses 32 BadName "$uses" 'set-macro\t1\t{'
+refuses 33 BadValue "$uses" 'set-macro\tx\t{'
+refuses 35 NotFound "$month" 'set-macro\tfeb\t1'
+refuses 36 Ambiguous '@string{m = 1}@string{M = 2}' 'set-macro\tm\t3'
 refuses 33 BadValue '@misc{a, t = {x}}' 'introduce\tm\t{x'
 refuses 35 NotFound '@misc{a, t = m}@string{n = 1}@misc{b, t = n}' 'introduce\tm\t1'
 refuses 38 NameInUse '@misc{a, t = {x} # m}' 'introduce\tm\tx'
@@ -113,6 +127,10 @@ refuses 71 BadScript "$two" 'rename-field\tx'
 refuses 71 BadScript "$two" 'rename-field\tx\ty\ta\tb'
 refuses 71 BadScript "$two" 'undefine'
 refuses 71 BadScript "$two" 'undefine\ta\tb'
+refuses 71 BadScript "$two" 'define\ta'
+refuses 71 BadScript "$two" 'define\ta\tb\tc'
+refuses 71 BadScript "$two" 'set-macro\ta'
+refuses 71 BadScript "$two" 'set-macro\ta\tb\tc'
 refuses 71 BadScript "$two" 'regenerate\t'
 refuses 71 BadScript "$two" 'regenerate\t0'
 refuses 71 BadScript "$two" 'regenerate\t9'
@@ -137,6 +155,8 @@ keeps "$month" 'rename-macro\tjan\tj' a a
 keeps '@string{x={1}}@string{m=x}@string{x={2}}@misc{k,t=m # x}' 'inline\tm' k k
 keeps '@misc{a, t = m # mar}@string{m = {x}}@string{MAR = {y}}' 'undefine\tm' a a
 keeps '@misc{a, t = {x } # "x" # mar}' 'introduce\tm\tx' a a
+keeps '@string{n = {y}}@misc{a, t = n # mar}' 'define\tm\t1' a a
+keeps '@string{m = 1}@string{n = {y}}@misc{a, t = n # mar}@misc{b, t = m}' 'set-macro\tm\t2' a a
 
 # Making keys is a change like any other, also where there are none: as many are kept as can be undone.
 given_edit '' ''

@@ -37,6 +37,13 @@ when ris --dropped king.bib zz; ends_with 1; writes_nothing; says 'bibkeep: 11 N
 when ris --dropped newline.bib '*'; ends_with 1; writes_nothing; says 'bibkeep: 6 UnbalancedBrace at 15'
 when ris --dropped empty.bib '*'; ends_with 0; writes_nothing; says_nothing
 
+# Plain texts: braces go, letters, signs and accents are characters, and what is not known stays. URL, DOI and ID are copied.
+given plain.bib '@misc{a_b, author = {{\\"O}zt{\\"u}rk, {\\c C}a{\\u g}lar and {Simon {\\&} Schuster} and Erd{\\H o}s, P\\'"'"'al and Stra\\ss e, \\'"'"'{\\i} \\v{S}}, title = {{\\TeX} \\& \\emph{a {B} \\~n} \\"{q}~1\\%% --- \\{x\\} \\o{}re \\oe uvre}, url = {http://a.org/~b{c}_\\_}, doi = {10/{\\"o}}, note = {~}}'
+when ris --plain plain.bib a_b; ends_with 0; says_nothing
+prints 'TY  - GEN\nAU  - Öztürk, Çağlar\nAU  - Simon & Schuster\nAU  - Erdős, Pál\nAU  - Straße, í Š\nTI  - \\TeX & \\emph{a {B} ñ} \\"{q} 1%% --- {x} øre œuvre\nUR  - http://a.org/~b{c}_\\_\nDO  - 10/{\\"o}\nN1  - \nID  - a_b\nER  - \n'
+when ris --plain --dropped king.bib k1; ends_with 0; writes_nothing; says_nothing
+when import --plain king.bib; ends_with 2; writes_nothing
+
 # A file to which nothing was done, and the RIS text that is added to it.
 given_import() {
     rm -f edited.bib.bibkeep
@@ -115,6 +122,44 @@ import_latex; ends_with 1; writes_nothing; says 'bibkeep: 61 NoStart at 0'; leav
 when import --latex --print edited.bib; ends_with 0; writes_nothing; says_nothing
 when edit --latex edited.bib; ends_with 2; writes_nothing
 when ris --latex king.bib k1; ends_with 2; writes_nothing
+
+# The lines that are skipped: as many as are counted, each with its number and its bytes. What continues one of them, a blank line
+# and a line of a known tag are none. Nothing of it is printed if the import is refused.
+import_with() {
+    input=script
+    when import "$@" edited.bib
+}
+skipping='\357\273\277From a: mail\r\n\n  more\nTY  - GEN\nno tag\nZ9  - \033[1m\n  2\nID  - z\nM3  -\nER  - \nend'
+given_import '' "$skipping"
+import_with --skipped; ends_with 0; says_nothing
+prints 'added 1 skipped 5\nskipped 1: From a: mail\r\nskipped 3:   more\nskipped 6: Z9  - \033[1m\nskipped 9: M3  -\nskipped 11: end\n'
+given_import '' "$skipping"
+import_with --skipped --print; ends_with 0; says_nothing; prints '@misc{z}\n'; leaves ''
+import_with --skipped --strict; ends_with 1; writes_nothing; says 'bibkeep: 65 SkippedLine at 3'; leaves ''
+given_import '@misc{Z}' "$skipping"
+import_with --skipped; ends_with 1; writes_nothing; says 'bibkeep: 37 KeyInUse'; leaves '@misc{Z}'
+given_import '' ''
+import_with --skipped; ends_with 0; prints 'added 0 skipped 0\n'; says_nothing
+
+# With --strict no line is skipped: the first that would be is told, after what is wrong with the lines and the texts.
+refuses_strictly() {
+    given_import "$2" "$3"
+    import_with --strict
+    case="import --strict $3 into $2"
+    ends_with 1; writes_nothing; says "bibkeep: $1"; leaves "$2"
+    expect 'a journal was left' test ! -e edited.bib.bibkeep
+}
+refuses_strictly '65 SkippedLine at 10' '' 'TY  - GEN\nXX  - 1\nER  - \ny\n'
+refuses_strictly '65 SkippedLine at 17' '' 'TY  - GEN\nER  - \ny\n'
+refuses_strictly '65 SkippedLine at 0' '' 'y'
+refuses_strictly '65 SkippedLine at 10' '@misc{a}' 'TY  - GEN\nXX  - 1\nID  - a\nER  - \n'
+refuses_strictly '64 UnbalancedText' '' 'TY  - GEN\nXX  - 1\nTI  - {\nER  - \n'
+refuses_strictly '62 NoEnd at 17' '' 'TY  - GEN\nXX  - 1'
+refuses_strictly '4 ExpectedCommaOrClose at 8' '@misc{a b}' 'y'
+given_import '' 'TY  - GEN\nno tag\n\nID  - x\nER  - \n\n'
+import_with --strict; ends_with 0; prints 'added 1 skipped 0\n'; says_nothing; leaves '@misc{x}\n'
+when edit --skipped edited.bib; ends_with 2; writes_nothing
+when ris --strict king.bib k1; ends_with 2; writes_nothing
 
 # Why nothing is added, in the order in which it is judged: the file and the journal, the length of the input, its lines,
 # the braces of its texts, and the edit. Neither the file nor its journal is touched.

@@ -38,6 +38,7 @@ RUNS = [
     ("json", {"raw": True}, ["*"]),
     ("ris", {}, ["*"]),
     ("ris", {"dropped": True}, ["*"]),
+    ("ris", {"plain": True}, ["*"]),
     ("show", {}, ["podc"]),
     ("entry", {}, ["a"]),
     ("entry", {"at": True}, ["a", "a"]),
@@ -48,7 +49,7 @@ RUNS = [
     ("names", {}, ["x", "{ff"]),
 ]
 
-OPTIONS = {"depth": "--depth", "number": "--min-crossrefs", "dropped": "--dropped", "at": "--at", "strict": "--strict", "raw": "--raw"}
+OPTIONS = {"depth": "--depth", "number": "--min-crossrefs", "dropped": "--dropped", "at": "--at", "strict": "--strict", "raw": "--raw", "plain": "--plain"}
 
 
 class Commands(unittest.TestCase):
@@ -75,6 +76,11 @@ class Commands(unittest.TestCase):
         ris = b"TY  - GEN\nTI  - 5 % of A & B\nER  - \n"
         for latex, text in ((False, b"{5 % of A & B}"), (True, b"{5 \\% of A \\& B}")):
             self.assertEqual(bibkeep.run("import", b"", input=ris, latex=latex).file, b"@misc{anon,\n  title = " + text + b"\n}\n")
+        ris = b"TY  - GEN\nXX  - 1\nID  - a\nER  - \n"
+        self.assertEqual(bibkeep.run("import", b"", input=ris, skipped=True).output, b"added 1 skipped 1\nskipped 2: XX  - 1\n")
+        with self.assertRaises(bibkeep.ParseError) as refused:
+            bibkeep.run("import", b"", input=ris, strict=True)
+        self.assertEqual((refused.exception.number, refused.exception.name, refused.exception.line), (65, "SkippedLine", 2))
         with self.assertRaises(bibkeep.ParseError) as refused:
             bibkeep.run("import", REFS, input=b"AU  - x\n")
         self.assertEqual((refused.exception.number, refused.exception.line), (61, 1))

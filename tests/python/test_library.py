@@ -69,6 +69,8 @@ class Edits(unittest.TestCase):
             ("rename_field", ("t", "title", "b"), b"@misc{a, t = 1}@misc{b, t = m}", b"@misc{a, t = 1}@misc{b, title = m}"),
             ("rename_macro", ("m", "n"), b"@string{m = 1}@misc{b, t = m}", b"@string{n = 1}@misc{b, t = n}"),
             ("inline", ("m",), b"@string{m = 1}@misc{k, t = m # 1}", b"@misc{k, t = {1} # 1}"),
+            ("define", ("n", "{x}"), b"@string{m = 1}\n@misc{b}", b"@string{m = 1}\n@string{n = {x}}\n@misc{b}"),
+            ("set_macro", ("m", "{x}"), b"@string{m = 1}@misc{b, t = m}", b"@string{m = {x}}@misc{b, t = m}"),
             ("undefine", ("m",), b"@misc{a, t = m}@string{m = 1}@misc{b}", b"@misc{a, t = m}@misc{b}"),
             ("introduce", ("m", "x"), b'@misc{a, t = {x} # "x"}', b"@string{m = {x}}\n@misc{a, t = m # m}"),
         ):

@@ -150,6 +150,7 @@ CASES = [
     ("bibkeep edit one.bib rename-macro ja\t", ["bibkeep", "edit", "one.bib", "rename-macro", "jacs"]),
     ("bibkeep edit keys.bib rename-field year date c\t", ["bibkeep", "edit", "keys.bib", "rename-field", "year", "date", "c:$(id>pwned):e"]),
     ("bibkeep edit one.bib undefine ja\t", ["bibkeep", "edit", "one.bib", "undefine", "jacs"]),
+    ("bibkeep edit one.bib set-macro ja\t", ["bibkeep", "edit", "one.bib", "set-macro", "jacs"]),
     ("bibkeep edit one.bib inline m\t", ["bibkeep", "edit", "one.bib", "inline", "m`id>pwned`"]),
     ("bibkeep explain 38\t", ["bibkeep", "explain", "38"]),
     ("bibkeep explain Refer\t", ["bibkeep", "explain", "Referred"]),

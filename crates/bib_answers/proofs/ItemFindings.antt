@@ -5,8 +5,6 @@ use Rattle.std.proofs.Math.Path.{fun_ext}
 use Rattle.bib_spec.specs.Tree.{Value}
 use Rattle.bib_scan.specs.View.{head_of, key_place}
 use Rattle.bib_answers.specs.Lint.{key_findings, for_entry, redefines, first_findings, item_findings, findings_in_body, trail_findings, findings_in_trail, findings_on}
-use Rattle.bib_scan.specs.Layout.{start_of}
-use Rattle.bib_answers.specs.FindingLines.{at_item}
 use Rattle.bib_answers.proofs.ItemFields.{IsViewed}
 use Rattle.bib_answers.proofs.FindingSteps.{findings_append}
 
@@ -82,47 +80,38 @@ module _ (db : Reading) (n : ℕ) (view : View) (is : IsViewed db n view) where
       (sym (entry_has tree (key_findings (key_place tree) (head_of tree).type_name (is_repeated (entries_of db) e) (key_of tree)) entry))
       ∙ sym on_item
 
-  -- the lines of another item than an entry, which begins there
-  pub other_written : (redefined : Bool) (crossrefs : ℕ → List Finding) (macros : Macros) (w begun out : Written) (start : ℕ) → is_entry_tree is.item.tree ≡ false → redefined ≡ redefines db.items n is.item.tree
-      → macros ≡ macros_at months db.items n → begun ≡ at_item w start → start ≡ start_of db n
-      → out ≡ with_findings begun (field_findings (defined_in view.kind) macros (first_findings view.kind macros redefined crossrefs) [] view.fields (assigned is.item.tree))
-      → out ≡ with_findings (at_item w (start_of db n)) (findings_in_body db n)
-  other_written redefined crossrefs macros w begun out start other defines macros_are begins starts written =
+  -- the lines of another item than an entry
+  pub other_written : (redefined : Bool) (crossrefs : ℕ → List Finding) (macros : Macros) (w out : Written) → is_entry_tree is.item.tree ≡ false → redefined ≡ redefines db.items n is.item.tree
+      → macros ≡ macros_at months db.items n
+      → out ≡ with_findings w (field_findings (defined_in view.kind) macros (first_findings view.kind macros redefined crossrefs) [] view.fields (assigned is.item.tree))
+      → out ≡ with_findings w (findings_in_body db n)
+  other_written redefined crossrefs macros w out other defines macros_are written =
       written
-      ∙ ap (λ (m : Macros). with_findings begun (field_findings (defined_in view.kind) m (first_findings view.kind m redefined crossrefs) [] view.fields (assigned is.item.tree))) macros_are
-      ∙ ap (λ (b : Written). with_findings b (view_findings db n redefined crossrefs view is.item.tree)) (begins ∙ ap (at_item w) starts)
-      ∙ ap (with_findings (at_item w (start_of db n))) (other_found redefined crossrefs other defines)
+      ∙ ap (λ (m : Macros). with_findings w (field_findings (defined_in view.kind) m (first_findings view.kind m redefined crossrefs) [] view.fields (assigned is.item.tree))) macros_are
+      ∙ ap (with_findings w) (other_found redefined crossrefs other defines)
 
   -- the lines of an entry
-  pub entry_written : (redefined : Bool) (crossrefs : ℕ → List Finding) (macros : Macros) (w begun keyed out : Written) (start key_at : ℕ) (typed : Text) (repeated : Bool) (key : Text) → is_entry_tree is.item.tree ≡ true
+  pub entry_written : (redefined : Bool) (crossrefs : ℕ → List Finding) (macros : Macros) (w keyed out : Written) (repeated : Bool) → is_entry_tree is.item.tree ≡ true
       → ((at : ℕ) → crossrefs at ≡ crossrefs_of (entries_of db) (entries_before db n) at)
-      → macros ≡ macros_at months db.items n → begun ≡ at_item w start → start ≡ start_of db n
-      → key_at ≡ view.key_at → typed ≡ view.type_name → repeated ≡ is_repeated (entries_of db) (entries_before db n) → key ≡ view.key
-      → keyed ≡ with_findings begun (key_findings key_at typed repeated key)
+      → macros ≡ macros_at months db.items n → repeated ≡ is_repeated (entries_of db) (entries_before db n)
+      → keyed ≡ with_findings w (key_findings view.key_at view.type_name repeated view.key)
       → out ≡ with_findings keyed (field_findings (defined_in view.kind) macros (first_findings view.kind macros redefined crossrefs) [] view.fields (assigned is.item.tree))
-      → out ≡ with_findings (at_item w (start_of db n)) (findings_in_body db n)
-  entry_written redefined crossrefs macros w begun keyed out start key_at typed repeated key entry are macros_are begins starts places types repeats keys key_written written =
-      let there : Written = at_item w (start_of db n) in
-      let first : keyed ≡ with_findings there (key_findings view.key_at view.type_name (is_repeated (entries_of db) (entries_before db n)) view.key) =
-      key_written
-      ∙ ap (λ (b : Written). with_findings b (key_findings key_at typed repeated key)) (begins ∙ ap (at_item w) starts)
-      ∙ ap (λ (k : ℕ). with_findings there (key_findings k typed repeated key)) places
-      ∙ ap (λ (t : Text). with_findings there (key_findings view.key_at t repeated key)) types
-      ∙ ap (λ (b : Bool). with_findings there (key_findings view.key_at view.type_name b key)) repeats
-      ∙ ap (λ (k : Text). with_findings there (key_findings view.key_at view.type_name (is_repeated (entries_of db) (entries_before db n)) k)) keys in
+      → out ≡ with_findings w (findings_in_body db n)
+  entry_written redefined crossrefs macros w keyed out repeated entry are macros_are repeats key_written written =
+      let first : keyed ≡ with_findings w (key_findings view.key_at view.type_name (is_repeated (entries_of db) (entries_before db n)) view.key) =
+      key_written ∙ ap (λ (b : Bool). with_findings w (key_findings view.key_at view.type_name b view.key)) repeats in
       written
       ∙ ap (λ (m : Macros). with_findings keyed (field_findings (defined_in view.kind) m (first_findings view.kind m redefined crossrefs) [] view.fields (assigned is.item.tree))) macros_are
       ∙ ap (λ (k : Written). with_findings k (view_findings db n redefined crossrefs view is.item.tree)) first
-      ∙ findings_append there (key_findings view.key_at view.type_name (is_repeated (entries_of db) (entries_before db n)) view.key) (view_findings db n redefined crossrefs view is.item.tree)
-      ∙ ap (with_findings there) (entry_found redefined crossrefs entry are)
+      ∙ findings_append w (key_findings view.key_at view.type_name (is_repeated (entries_of db) (entries_before db n)) view.key) (view_findings db n redefined crossrefs view is.item.tree)
+      ∙ ap (with_findings w) (entry_found redefined crossrefs entry are)
 
   -- the lines of the body, and then those of the trail
-  pub item_written : (w body out : Written) → body ≡ with_findings (at_item w (start_of db n)) (findings_in_body db n) → out ≡ with_findings body (trail_findings is.item)
-      → out ≡ with_findings (at_item w (start_of db n)) (findings_on db n)
+  pub item_written : (w body out : Written) → body ≡ with_findings w (findings_in_body db n) → out ≡ with_findings body (trail_findings is.item)
+      → out ≡ with_findings w (findings_on db n)
   item_written w body out body_written written =
-      let there : Written = at_item w (start_of db n) in
       let trail : findings_in_trail db n ≡ trail_findings is.item = rw is.at refl in
       written
       ∙ ap (λ (b : Written). with_findings b (trail_findings is.item)) body_written
-      ∙ findings_append there (findings_in_body db n) (trail_findings is.item)
-      ∙ ap (λ (fs : List Finding). with_findings there (findings_in_body db n ++ fs)) (sym trail)
+      ∙ findings_append w (findings_in_body db n) (trail_findings is.item)
+      ∙ ap (λ (fs : List Finding). with_findings w (findings_in_body db n ++ fs)) (sym trail)

@@ -16,6 +16,8 @@ pub mod ItemFindings
 pub mod ToldKeys
 pub mod MissingKeys
 pub mod PlainTexts
+pub mod PlainBodies
+pub mod PlainGaps
 -- ---- cited lists, labels and names
 pub mod AnyOf
 pub mod CitedNumbers

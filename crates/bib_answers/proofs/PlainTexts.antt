@@ -13,7 +13,7 @@ use Rattle.bib_spec.specs.Texts.{field_text, part_text, parts_of, raw_text}
 use Rattle.bib_persons.specs.Persons.{is_comma_byte, has_names, refused_names}
 use Rattle.bib_persons.proofs.Counts.{count-cons, count-append, count-field_text}
 use Rattle.bib_answers.specs.declared.warnings.Warning.TheVariants.{ManyCommas}
-use Rattle.bib_answers.specs.Lint.{found, is_use, has_uses, text_findings, own_findings}
+use Rattle.bib_answers.specs.Lint.{found, is_use, has_uses, encoding_findings, text_findings, own_findings}
 use Rattle.bib_answers.specs.Plain.{is_other}
 
 ascii_of : (t : Text) → count_by is_other t ≡ 0 → IsAscii t
@@ -41,6 +41,13 @@ plain_text field raw name all few =
     no_names : (named : Bool) → (named ≡ true → refused_names (field_text raw) ≡ []) → (cond named (flat_map (found ManyCommas field.value_at) (refused_names (field_text raw))) [] ++ []) ≡ []
     no_names true none = ap (λ (names : List Text). flat_map (found ManyCommas field.value_at) names ++ []) (none refl)
     no_names false none = refl
+
+-- nothing is found in the encoding of a type and a key that are ASCII
+pub plain_encoding : (at : ℕ) (type_name key : Text) → count_by is_other type_name ≡ 0 → count_by is_other key ≡ 0 → encoding_findings at type_name key ≡ []
+plain_encoding at type_name key typed keyed =
+    let spelled : is_utf8 type_name ≡ true = utf8_of type_name typed in
+    let named : is_utf8 key ≡ true = utf8_of key keyed in
+    rw (spelled, named) refl
 
 -- ---- what a value says without a macro
 

@@ -232,6 +232,13 @@ item_at file spot view body trail opened number is viewed bodied trailed =
           (ap₂ (λ (b t : Text). (spot.place + length b) + length t) (sym bodies) (sym trails));
     }))
 
+-- the same, of item n by its view
+pub item_here : (file : Text) (n place : ℕ) (view : View) → IsOpenable file → IsItemNumber file n → OfReading file (λ r. place ≡ start_of r n)
+    → OfReading file (λ r. (i : Item) → slice_get r.items n ≡ Some i → view ≡ view_of i) → IsItemAt file n place view.body view.trail
+item_here file n place view opened number begins viewed =
+    item_at file (record { n = n; place = place }) view view.body view.trail opened number
+    (λ r reads. record { within = let few = number r reads in omega (arith, few); place = begins r reads }) viewed refl refl
+
 -- the position before the first item of a walk
 pub begun : (file : Text) (from at : Position) (start end : ℕ) (front : Text) (spot : Spot) → IsOpenable file → OfReading file (λ r. front ≡ r.front)
     → OfReading file (λ r. (end : ℕ) → min spot.place end - start ≡ min (length r.front) end - start) → at ≡ fold position_after from (clip (start - 0) (end - 0) front)

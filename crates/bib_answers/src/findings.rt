@@ -1,14 +1,13 @@
 //! What is found in one item.
 
-ghost use Rattle.std.specs.Prelude.{◌≡◌, ◌++◌, ◌+◌, ◌∷◌, ℕ, Bool, List, [], if◌then◌else◌, OnOk};
+ghost use Rattle.std.specs.Prelude.{◌≡◌, ◌++◌, ◌+◌, ◌∷◌, ℕ, Bool, true, List, [], if◌then◌else◌, OnOk};
 ghost use Rattle.std.specs.Option.{option_copied};
 ghost use Rattle.std.specs.Str.{is_utf8};
 ghost use Rattle.bib_spec.specs.Bytes.{name_limit};
 ghost use Rattle.bib_spec.specs.Text.{Text};
 ghost use Rattle.bib_spec.specs.Reading.{Item, IsValueWithin};
-ghost use Rattle.bib_spec.specs.Records.{entries_of};
+ghost use Rattle.bib_spec.specs.Records.{entries_of, target};
 ghost use Rattle.bib_spec.specs.Tree.{IsTree};
-ghost use Rattle.bib_scan.specs.Layout.{start_of};
 ghost use Rattle.bib_scan.specs.PartView.{part_view};
 ghost use Rattle.bib_scan.specs.ValueParts.{IsPartsOf};
 ghost use Rattle.bib_scan.specs.View.{field_seen, view_of};
@@ -17,7 +16,8 @@ ghost use Rattle.bib_store.specs.Readings.{OfReading, IsItemNumber, IsEntryNumbe
 ghost use Rattle.bib_answers.specs.Check.{Assigned, defined_in, entries_before};
 ghost use Rattle.bib_answers.specs.Fields.{Views, IsKeyOf, AreFieldsOf, AreSound};
 ghost use Rattle.bib_answers.specs.Lint.{use_findings, value_findings, name_findings, entry_field_findings, is_defined_before, redefines, definition_findings, first_findings, field_findings, grandparent, order_findings, nested_findings, target_findings, has_empty_parents, empty_findings, crossref_findings, crossrefs_of, repeated_findings, unusual_findings, encoding_findings, found, key_findings, findings_in_body, trail_findings, findings_on};
-ghost use Rattle.bib_answers.specs.FindingLines.{at_item, with_findings};
+ghost use Rattle.bib_answers.specs.FindingLines.{with_findings};
+ghost use Rattle.bib_answers.specs.Plain.{IsPlain, ArePlain, IsPlainHead};
 ghost use Rattle.bib_answers.specs.Recurring.{AreTold};
 ghost use Rattle.bib_answers.specs.Seen.{HaveSeen};
 
@@ -27,7 +27,7 @@ use crate::kinds::is_same_kind;
 use crate::numbered::NumberedItem;
 use crate::reporting::{defined_in, is_own, is_repeated};
 use crate::seen_names::SeenNames;
-use crate::text_findings::{add_own_findings, is_utf8};
+use crate::text_findings::{add_own_findings, is_ascii, is_utf8};
 use crate::warnings::Warning;
 use bib_scan::{
     FieldView, ItemView, Kind, Part, Parts, is_key, only_part, read_value, same_folded,
@@ -36,8 +36,8 @@ use bib_store::{Database, Paged};
 use bib_value::MacroTable;
 use std::alloc::{AllocError, Global};
 
-/// Adds the findings on this item, in its body and in its trail. It takes time in the item's length. `names` lends its memory
-/// for the names of the fields.
+/// Adds the findings on this item, in its body and in its trail, to lines that were begun at the item's place. It takes time in
+/// the item's length. `names` lends its memory for the names of the fields.
 pub fn add_item_findings<'a>(
     alloc: Global,
     lines: &mut FindingLines<'_>,
@@ -50,7 +50,7 @@ pub fn add_item_findings<'a>(
     requires parents { OfReading db.now (λ r. empty_parents ≡ has_empty_parents (entries_of r)) }
     requires seen { OfReading db.now (λ r. Views r it.n it.view.now) }
     requires entries { OfReading db.now (λ r. it.entries ≡ entries_before r it.n) }
-    ensures { OnOk result (OfReading db.now (λ r. lines.new ≡ with_findings (at_item lines.old (start_of r it.entry.n)) (findings_on r it.entry.n))) }
+    ensures { OnOk result (OfReading db.now (λ r. lines.new ≡ with_findings lines.old (findings_on r it.entry.n))) }
 {
     add_body_findings(alloc, lines, db, it, empty_parents, names)?;
     add_trail_findings(lines, it.view)
@@ -69,27 +69,29 @@ fn add_body_findings<'a>(
     requires parents { OfReading db.now (λ r. empty_parents ≡ has_empty_parents (entries_of r)) }
     requires seen { OfReading db.now (λ r. Views r it.n it.view.now) }
     requires entries { OfReading db.now (λ r. it.entries ≡ entries_before r it.n) }
-    ensures { OnOk result (OfReading db.now (λ r. lines.new ≡ with_findings (at_item lines.old (start_of r it.entry.n)) (findings_in_body r it.entry.n))) }
+    ensures { OnOk result (OfReading db.now (λ r. lines.new ≡ with_findings lines.old (findings_in_body r it.entry.n))) }
 {
     db.opens();
     let item = it.view;
     let entries = it.entries;
-    lines.begin_item(db.item_place(it.n));
     let macros = db.macros_at(it.n);
     if !is_same_kind(item.kind(), Kind::Entry) {
         let it = WithFacts {
             view: item,
             redefines: redefines(db, it.n, item),
             crossref: Crossref::none(),
+            ascii: false,
         };
         return add_field_findings(alloc, lines, &macros, it, names);
     }
+    let ascii = is_ascii(item.body());
     let repeated = is_repeated(db, entries, item.key());
-    add_key_findings(lines, item.key_at(), item.type_name(), repeated, item.key())?;
+    add_key_findings(lines, item, repeated, ascii)?;
     let it = WithFacts {
         view: item,
         redefines: false,
         crossref: crossref_of(db, entries, item.key(), empty_parents),
+        ascii,
     };
     add_field_findings(alloc, lines, &macros, it, names)
 }
@@ -131,33 +133,38 @@ fn add_trail_findings(lines: &mut FindingLines<'_>, item: &ItemView<'_>) -> Resu
 
 // ---- keys
 
-/// Adds what is found in an entry's key and type: an earlier entry has the key, no edit could write it, and one of the two is not
-/// UTF-8.
+/// Adds what is found in the key and the type of this entry: an earlier entry has the key, no edit could write it, and one of the
+/// two is not UTF-8. If the entry is known to be ASCII, the two are not read for that.
 fn add_key_findings(
     lines: &mut FindingLines<'_>,
-    at: usize,
-    type_name: &[u8],
+    entry: &ItemView<'_>,
     repeated: bool,
-    key: &[u8],
+    ascii: bool,
 ) -> Result<(), AllocError>
-    ensures { OnOk result (lines.new ≡ with_findings lines.old (key_findings at type_name.now repeated key.now)) }
+    requires { ascii ≡ true → IsPlainHead entry.now }
+    ensures { OnOk result (lines.new ≡ with_findings lines.old (key_findings entry.now.key_at entry.now.type_name repeated entry.now.key)) }
 {
-    add_repeated(lines, at, repeated, key)?;
-    add_unusual(lines, at, key)?;
-    add_encoding(lines, at, type_name, key)
+    let at = entry.key_at();
+    add_repeated(lines, at, repeated, entry.key())?;
+    add_unusual(lines, at, entry.key())?;
+    add_encoding(lines, entry, ascii)
 }
 
-/// Adds that the type or the key is not UTF-8.
+/// Adds that the type or the key of this entry is not UTF-8.
 fn add_encoding(
     lines: &mut FindingLines<'_>,
-    at: usize,
-    type_name: &[u8],
-    key: &[u8],
+    entry: &ItemView<'_>,
+    ascii: bool,
 ) -> Result<(), AllocError>
-    ensures { OnOk result (lines.new ≡ with_findings lines.old (encoding_findings at type_name.now key.now)) }
+    requires { ascii ≡ true → IsPlainHead entry.now }
+    ensures { OnOk result (lines.new ≡ with_findings lines.old (encoding_findings entry.now.key_at entry.now.type_name entry.now.key)) }
 {
-    add_not_utf8(lines, Warning::TypeNotUtf8, at, type_name)?;
-    add_not_utf8(lines, Warning::KeyNotUtf8, at, key)
+    if ascii {
+        return Ok(());
+    }
+    let at = entry.key_at();
+    add_not_utf8(lines, Warning::TypeNotUtf8, at, entry.type_name())?;
+    add_not_utf8(lines, Warning::KeyNotUtf8, at, entry.key())
 }
 
 /// Adds a finding of this kind if the bytes are not UTF-8.
@@ -233,7 +240,7 @@ impl<'a> Crossref<'a> {
     }
 }
 
-/// The crossref of entry `n`, which has this key.
+/// The crossref of entry `n`, which has this key. Most entries have none, and for them no entry is sought.
 fn crossref_of<'a>(
     db: &'a Database<Paged>,
     n: usize,
@@ -245,22 +252,29 @@ fn crossref_of<'a>(
     requires parents { OfReading db.now (λ r. empty_parents ≡ has_empty_parents (entries_of r)) }
     ensures { OfReading db.now (λ r. (at : ℕ) → crossref_findings result.empty_parents result.key.now result.n (option_copied result.text) result.target result.grandparent at ≡ crossrefs_of (entries_of r) n at) }
 {
+    let Some(text) = db.crossref_text(n) else {
+        return Crossref::none();
+    };
+    let target = db.target(n);
     Crossref {
         empty_parents,
         key,
         n,
-        text: db.crossref_text(n),
-        target: db.target(n),
-        grandparent: grandparent(db, n),
+        text: Some(text),
+        target,
+        grandparent: grandparent(db, n, target),
     }
 }
 
-/// The parent of entry `n`'s parent, unless it is entry `n` itself.
-fn grandparent(db: &Database<Paged>, n: usize) -> Option<usize>
-    requires { IsEntryNumber db.now n }
+/// The parent of the parent of entry `n`, which has this target, unless it is entry `n` itself.
+fn grandparent(db: &Database<Paged>, n: usize, found: Option<usize>) -> Option<usize>
+    requires { OfReading db.now (λ r. found ≡ target (entries_of r) n) }
     ensures { OfReading db.now (λ r. result ≡ grandparent (entries_of r) n) }
 {
-    let parent = db.parent(n)?;
+    let parent = found?;
+    if parent == n {
+        return None;
+    }
     let grandparent = db.parent(parent)?;
     if grandparent == n {
         return None;
@@ -346,12 +360,14 @@ fn add_nested(
 
 // ---- fields
 
-/// What is seen of an item, whether it defines a macro again, and its crossref if it is an entry.
+/// What is seen of an item, whether it defines a macro again, and its crossref if it is an entry; and whether it is known to be
+/// ASCII, so that its fields are not read for that.
 #[derive(Clone, Copy)]
 pub struct WithFacts<'v, 'a, 'c> {
     view: &'v ItemView<'a>,
     redefines: bool,
     crossref: Crossref<'c>,
+    ascii: bool,
 }
 
 /// Adds what is found in an item's fields: for each field, that an earlier one has its name, or else what is found in the first
@@ -363,7 +379,8 @@ fn add_field_findings<'a, M: MacroTable>(
     it: WithFacts<'_, 'a, '_>,
     earlier: &mut SeenNames<'a>,
 ) -> Result<(), AllocError>
-    requires { AreSound it.view.now.fields }
+    requires sound { AreSound it.view.now.fields }
+    requires plain { it.ascii ≡ true → ArePlain it.view.now.fields }
     ensures { OnOk result ((values : List Assigned) → AreFieldsOf values it.entry.view.now.fields
         → lines.new ≡ with_findings lines.old (field_findings (defined_in it.entry.view.now.kind) (M.macros macros.now)
         (first_findings it.entry.view.now.kind (M.macros macros.now) it.entry.redefines (crossref_findings it.entry.crossref.empty_parents it.entry.crossref.key.now it.entry.crossref.n (option_copied it.entry.crossref.text) it.entry.crossref.target it.entry.crossref.grandparent)) [] it.entry.view.now.fields values)) }
@@ -394,7 +411,8 @@ fn add_name<M: MacroTable>(
     field: FieldView<'_>,
     it: WithFacts<'_, '_, '_>,
 ) -> Result<(), AllocError>
-    requires { IsValueWithin name_limit field.value.now }
+    requires value { IsValueWithin name_limit field.value.now }
+    requires plain { it.ascii ≡ true → IsPlain (field_seen field) }
     ensures { OnOk result ((names rest : List Text) → HaveSeen earlier.now names → AreTold earlier.now.filter names (field.entry.name.now ∷ rest)
         → OfValue field.entry.value.now (λ v. lines.new ≡ with_findings lines.old (name_findings (first_findings it.entry.view.now.kind (M.macros macros.now) it.entry.redefines (crossref_findings it.entry.crossref.empty_parents it.entry.crossref.key.now it.entry.crossref.n (option_copied it.entry.crossref.text) it.entry.crossref.target it.entry.crossref.grandparent)) names (field_seen field.entry) v))) }
 {
@@ -412,31 +430,35 @@ fn add_first<M: MacroTable>(
     field: FieldView<'_>,
     it: WithFacts<'_, '_, '_>,
 ) -> Result<(), AllocError>
-    requires { IsValueWithin name_limit field.value.now }
+    requires value { IsValueWithin name_limit field.value.now }
+    requires plain { it.ascii ≡ true → IsPlain (field_seen field) }
     ensures { OnOk result (OfValue field.entry.value.now (λ v. lines.new ≡ with_findings lines.old (first_findings it.entry.view.now.kind (M.macros macros.now) it.entry.redefines (crossref_findings it.entry.crossref.empty_parents it.entry.crossref.key.now it.entry.crossref.n (option_copied it.entry.crossref.text) it.entry.crossref.target it.entry.crossref.grandparent) (field_seen field.entry) v))) }
 {
     match it.view.kind() {
-        Kind::Entry => add_entry_field(alloc, lines, macros, field, it.crossref),
+        Kind::Entry => add_entry_field(alloc, lines, macros, field, it.crossref, it.ascii),
         Kind::Macro => add_definition(lines, field, it.redefines),
         Kind::Preamble | Kind::Comment => Ok(()),
     }
 }
 
-/// Adds what is found in the first field of a name of an entry that has this crossref.
+/// Adds what is found in the first field of a name of an entry that has this crossref. If the entry is known to be ASCII, the
+/// field is not read for that.
 fn add_entry_field<M: MacroTable>(
     alloc: Global,
     lines: &mut FindingLines<'_>,
     macros: &M,
     field: FieldView<'_>,
     crossref: Crossref<'_>,
+    ascii: bool,
 ) -> Result<(), AllocError>
-    requires { IsValueWithin name_limit field.value.now }
+    requires value { IsValueWithin name_limit field.value.now }
+    requires plain { ascii ≡ true → IsPlain (field_seen field) }
     ensures { OnOk result (OfValue field.entry.value.now (λ v. lines.new ≡ with_findings lines.old (entry_field_findings (M.macros macros.now) (crossref_findings crossref.entry.empty_parents crossref.entry.key.now crossref.entry.n (option_copied crossref.entry.text) crossref.entry.target crossref.entry.grandparent) (field_seen field.entry) v))) }
 {
     if same_folded(field.name, b"crossref") {
         return add_crossref(lines, field.value_at, crossref);
     }
-    add_own_findings(alloc, lines, macros, field)
+    add_own_findings(alloc, lines, macros, field, ascii)
 }
 
 /// Adds that the field of a definition defines a macro again, if it does.

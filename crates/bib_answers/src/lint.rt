@@ -1,6 +1,6 @@
 //! `lint`: what is wrong with a file, a line each, as compilers write it.
 
-ghost use Rattle.std.specs.Prelude.{◌≡◌, ◌≢◌, ◌+◌, ◌<◌, ◌^◌, ℕ, List, [], ◌∷◌, nat_lt, IfOk, OnOk};
+ghost use Rattle.std.specs.Prelude.{◌≡◌, ◌≢◌, ◌+◌, ◌<◌, ◌^◌, ℕ, List, [], ◌∷◌, length, nat_lt, IfOk, OnOk};
 ghost use Rattle.std.specs.List.{flat_map};
 ghost use Rattle.bib_faults.specs.GoingOn.{Fault, Faults};
 ghost use Rattle.aux_text.specs.declared.placing.AuxKeys.{AuxKeys as Cited};
@@ -24,7 +24,7 @@ use crate::positions::{first_known, known_at};
 use crate::seen_names::SeenNames;
 use aux_text::AuxKeys;
 use bib_faults::read_all;
-use bib_scan::{Kind, ReadFault, Text, copied};
+use bib_scan::{ItemView, Kind, ReadFault, Text, copied};
 use bib_store::{Database, Paged};
 use bib_words::status;
 use std::alloc::{AllocError, Global};
@@ -178,12 +178,13 @@ pub fn lint_in(
     Ok(told(alloc, lines, status))
 }
 
-/// What is found in one pass over the items: the lines, and how many of the items are entries; and whether BibTeX finds parents
-/// for empty crossrefs, which is known before the pass.
+/// What is found in one pass over the items: the lines, how many of the items are entries, and where the next item begins; and
+/// whether BibTeX finds parents for empty crossrefs, which is known before the pass.
 #[derive(Drop)]
 struct Found<'a> {
     lines: FindingLines<'a>,
     entries: usize,
+    place: usize,
     empty_parents: bool,
 }
 
@@ -199,6 +200,7 @@ fn lines_of(
     let mut found = Found {
         lines: FindingLines::new(alloc, ignored, files),
         entries: 0,
+        place: db.front().len(),
         empty_parents: has_empty_parents(db),
     };
     add_gap_findings(&mut found.lines, false, 0, db.front())?;
@@ -230,7 +232,17 @@ fn look_at<'a>(
         view: &item,
         entries,
     };
+    found.lines.begin_item(found.place);
     add_item_findings(alloc, &mut found.lines, db, it, found.empty_parents, names)?;
     found.entries = counted(entries, is_same_kind(item.kind(), Kind::Entry));
+    found.place = place_after(&item, found.place);
     Ok(())
+}
+
+/// Where the item ends with its trail, if it begins at this place.
+fn place_after(item: &ItemView<'_>, place: usize) -> usize
+    requires { (place + length item.now.body) + length item.now.trail < 2 ^ 64 }
+    ensures { result ≡ (place + length item.now.body) + length item.now.trail }
+{
+    place + item.body().len() + item.trail().len()
 }

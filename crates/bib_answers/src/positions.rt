@@ -6,8 +6,8 @@ ghost use Rattle.bib_answers.specs.Positions.{position_after, position_of, is_li
 
 use memchr::memrchr;
 
-/// How many bytes a run has at most: the count of its line feeds fits a byte.
-const RUN: usize = 255;
+/// How many bytes a run has at most: the count of its line feeds fits a byte, and the processor counts 32 bytes at once.
+const RUN: usize = 224;
 
 /// Where a byte stands in a file, counted from 1. Columns count bytes.
 #[derive(Clone, Copy, Debug, PartialEq, Eq)]

@@ -1,6 +1,6 @@
 //! What is found in the text of a field.
 
-ghost use Rattle.std.specs.Prelude.{◌≡◌, ◌≤◌, [], length, IsTrue, IfOk, OnOk};
+ghost use Rattle.std.specs.Prelude.{◌≡◌, ◌≤◌, true, [], length, IsTrue, IfOk, IfSome, OnOk};
 ghost use Rattle.std.specs.List.{count_by};
 ghost use Rattle.std.specs.Str.{is_utf8};
 ghost use Rattle.bib_spec.specs.Bytes.{name_limit};
@@ -13,7 +13,7 @@ ghost use Rattle.bib_value.specs.Raw.{OfValue};
 ghost use Rattle.bib_persons.specs.Persons.{has_names, refused_names};
 ghost use Rattle.bib_answers.specs.Lint.{is_use, has_uses, refused_findings, field_encoding_findings, text_findings, own_findings};
 ghost use Rattle.bib_answers.specs.FindingLines.{with_findings};
-ghost use Rattle.bib_answers.specs.Plain.{is_other};
+ghost use Rattle.bib_answers.specs.Plain.{is_other, IsPlain};
 
 use crate::finding_lines::FindingLines;
 use crate::warnings::Warning;
@@ -23,21 +23,23 @@ use bib_value::{MacroTable, field_text, raw_text};
 use std::alloc::{AllocError, Global};
 use std::str;
 
-/// How many bytes a run has at most: a count of some of them fits a byte.
-const RUN: usize = 255;
+/// How many bytes a run has at most: a count of some of them fits a byte, and the processor counts 32 at once.
+const RUN: usize = 224;
 
 /// Adds what is found in the text of a field of an entry whose value uses no macro. It takes time in the value's length. Most values
-/// are plain, and are not taken apart.
+/// are plain, and are not taken apart. If the field is known to be ASCII, it is not read for that.
 pub fn add_own_findings<M: MacroTable>(
     alloc: Global,
     lines: &mut FindingLines<'_>,
     macros: &M,
     field: FieldView<'_>,
+    ascii: bool,
 ) -> Result<(), AllocError>
-    requires { IsValueWithin name_limit field.value.now }
+    requires value { IsValueWithin name_limit field.value.now }
+    requires plain { ascii ≡ true → IsPlain (field_seen field) }
     ensures { OnOk result (OfValue field.entry.value.now (λ v. lines.new ≡ with_findings lines.old (own_findings (M.macros macros.now) (field_seen field.entry) v))) }
 {
-    if is_plain(field.name, field.value) {
+    if is_plain(field.name, field.value, ascii) {
         return Ok(());
     }
     let uses = has_uses(alloc, field.value)?;
@@ -126,7 +128,7 @@ pub fn is_utf8(bytes: &[u8]) -> bool
 }
 
 /// Whether each byte is ASCII.
-fn is_ascii(text: &[u8]) -> bool
+pub fn is_ascii(text: &[u8]) -> bool
     ensures { IsTrue result → count_by is_other text.now ≡ 0 }
 {
     other_count(text) == 0
@@ -161,20 +163,33 @@ fn count_in_run(run: &[u8]) -> u8
 }
 
 /// Whether nothing can be found in the text of a field with this name and these bytes of its value, whatever macros say: name and
-/// value are ASCII, and if it is a list of names, it has few commas. What a value says without a macro is in its bytes.
-fn is_plain(name: &[u8], value: &[u8]) -> bool
+/// value are ASCII, and if it is a list of names, it has few commas. What a value says without a macro is in its bytes. If the two
+/// are known to be ASCII, they are not read for that.
+fn is_plain(name: &[u8], value: &[u8], ascii: bool) -> bool
+    requires { ascii ≡ true → (count_by is_other name.now ≡ 0) × (count_by is_other value.now ≡ 0) }
     ensures { IsTrue result → (field : Field) (macros : Macros) → field.name ≡ name.now → OfValue value.now (λ v. own_findings macros field v ≡ []) }
 {
-    if !is_ascii(name) {
-        return false;
-    }
-    if !is_ascii(value) {
+    if !are_ascii(name, value, ascii) {
         return false;
     }
     if has_names(name) {
         return has_few_commas(value);
     }
     true
+}
+
+/// Whether each byte of both is ASCII, which may be known.
+fn are_ascii(name: &[u8], value: &[u8], known: bool) -> bool
+    requires { known ≡ true → (count_by is_other name.now ≡ 0) × (count_by is_other value.now ≡ 0) }
+    ensures { IsTrue result → (count_by is_other name.now ≡ 0) × (count_by is_other value.now ≡ 0) }
+{
+    if known {
+        return true;
+    }
+    if !is_ascii(name) {
+        return false;
+    }
+    is_ascii(value)
 }
 
 /// Adds the names of a list with this text that `names` refuses.
@@ -193,18 +208,40 @@ fn add_refused_in(
     Ok(())
 }
 
-/// The field text of a value. No raw text of a file that is open is too long, so the one refusal is want of memory.
+/// The field text of a value. No raw text of a file that is open is too long, so the one refusal is want of memory. Most values
+/// are one text, of which nothing is copied before white space is made one space.
 fn value_text<M: MacroTable>(alloc: Global, macros: &M, value: &[u8]) -> Result<Text, AllocError>
     requires { IsValueWithin name_limit value.now }
     ensures { IfOk result (λ text. OfValue value.now (λ v. text ≡ field_text (raw_text (M.macros macros.now) v))) }
 {
+    if let Some(text) = only_text(value) {
+        return spaced(alloc, text);
+    }
     let Ok(parts) = read_value(alloc, value) else {
         return Err(AllocError);
     };
     let Ok(raw) = raw_text(alloc, &parts, value, macros, None) else {
         return Err(AllocError);
     };
-    match field_text(alloc, raw.as_slice()) {
+    spaced(alloc, raw.as_slice())
+}
+
+/// The raw text of a value that is one braced or quoted text, whatever macros say.
+fn only_text(value: &[u8]) -> Option<&[u8]>
+    ensures { IfSome result (λ text. (macros : Macros) → OfValue value.now (λ v. text.now ≡ raw_text macros v)) }
+{
+    match only_part(value)? {
+        Part::Braced(text) => Some(text),
+        Part::Quoted(text) => Some(text),
+        Part::Digits(_) | Part::Macro(_) => None,
+    }
+}
+
+/// The field text of a raw text.
+fn spaced(alloc: Global, raw: &[u8]) -> Result<Text, AllocError>
+    ensures { IfOk result (λ text. text ≡ field_text raw.now) }
+{
+    match field_text(alloc, raw) {
         Ok(text) => Ok(text),
         Err(_) => Err(AllocError),
     }

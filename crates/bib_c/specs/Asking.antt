@@ -26,6 +26,8 @@ command_of name words aux others options = record {
   strict = options.strict;
   latex = options.latex;
   raw = options.raw;
+  skipped = options.skipped;
+  plain = options.plain;
 }
 
 -- the same of lists that there are

@@ -22,6 +22,8 @@ pub struct Options {
     pub strict: bool,
     pub latex: bool,
     pub raw: bool,
+    pub skipped: bool,
+    pub plain: bool,
 }
 
 /// The command with this name, these arguments and aux files, each as one text and lengths, and these options. There is none if a
@@ -113,5 +115,7 @@ fn command_of(
         strict: options.strict,
         latex: options.latex,
         raw: options.raw,
+        skipped: options.skipped,
+        plain: options.plain,
     }
 }

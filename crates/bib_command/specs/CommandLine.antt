@@ -148,13 +148,17 @@ insert_line = adding (with_rule (with_rule (over_file (codes "insert")) position
 abbrev pub steps_line : Text → App
 steps_line name = with_rule (with_rule (over_file name) (count (codes "steps") (codes "1"))) (switch (codes "print"))
 
--- as above, `ris F [--depth D] [--dropped] [KEY..]`
+-- as above, `ris F [--depth D] [--dropped] [--plain] [KEY..]`
 abbrev pub ris_line : App
-ris_line = with_rule (keys_line (codes "ris")) (switch (codes "dropped"))
+ris_line = with_rule (with_rule (keys_line (codes "ris")) (switch (codes "dropped"))) (switch (codes "plain"))
 
 -- `import F [--print] [--new-journal] [--no-journal] [--latex]`
+abbrev pub import_texts_line : App
+import_texts_line = with_rule (adding (with_rule (over_file (codes "import")) (switch (codes "print")))) (switch (codes "latex"))
+
+-- `import F [--print] [--new-journal] [--no-journal] [--latex] [--skipped] [--strict]`
 abbrev pub import_line : App
-import_line = with_rule (adding (with_rule (over_file (codes "import")) (switch (codes "print")))) (switch (codes "latex"))
+import_line = with_rule (with_rule import_texts_line (switch (codes "skipped"))) (switch (codes "strict"))
 
 -- `merge BASE OURS THEIRS [--print]`
 abbrev pub merge_line : App
@@ -251,6 +255,8 @@ command_of name rows = record {
   strict = given (codes "strict") rows;
   latex = given (codes "latex") rows;
   raw = given (codes "raw") rows;
+  skipped = given (codes "skipped") rows;
+  plain = given (codes "plain") rows;
 }
 
 -- the words name this command by clap's exact matching

@@ -3,7 +3,7 @@
 ghost use Rattle.std.specs.Prelude.{◌≡◌, IfOk, codes};
 ghost use Rattle.clap.specs.Words.{App, new_app};
 ghost use Rattle.bib_command.specs.Lines.{Reads};
-ghost use Rattle.bib_command.specs.CommandLine.{adds, over_file, over_files, cat_line, check_line, lint_line, show_line, cited_line, entry_line, cite_line, edit_or_print_line, json_line, keys_line, names_line, newkeys_line, edit_line, insert_line, steps_line, ris_line, import_line, merge_line, diff_line, explain_line, bibkeep_top, bibkeep_shows, bibkeep_makes, bibkeep_edits, bibkeep};
+ghost use Rattle.bib_command.specs.CommandLine.{adds, over_file, over_files, cat_line, check_line, lint_line, show_line, cited_line, entry_line, cite_line, edit_or_print_line, json_line, keys_line, names_line, newkeys_line, edit_line, insert_line, steps_line, ris_line, import_texts_line, import_line, merge_line, diff_line, explain_line, bibkeep_top, bibkeep_shows, bibkeep_makes, bibkeep_edits, bibkeep};
 
 use crate::arguments::{
     any_file, aux_files, count, edit_words, files_after, files_before, hints, ignore, keys, levels,
@@ -331,6 +331,8 @@ by tabs (shown here as spaces):
   inline NAME                            replaces the macro's uses by its text, and removes its definition
   introduce NAME TEXT                    defines the macro and uses it for every {TEXT} or \"TEXT\"
   undefine NAME                          removes the macro's definition, if nothing after it uses the macro
+  define NAME VALUE                      defines a macro, after the definitions before the first entry
+  set-macro NAME VALUE                   gives the macro another value
   regenerate [DEPTH]                     makes a key of names and year for every entry, and updates the crossrefs
   group LABEL                            begins a step: one undo takes back the edits up to its end
   end                                    ends the step
@@ -358,7 +360,7 @@ fn insert<'a>(alloc: Global) -> Result<Command<'a>, AllocError>
         "\
 The text is what a page or a program gives: entries, and whatever stands around them. It must be valid by itself. At the
 end of a file whose last line is not ended, it begins a new line. One change, which `bibkeep undo F` takes back. It is
-refused if a key of its entries is in the file, or twice in the text, or if it defines a macro that the file defines.
+refused if a key of its entries is in the file, or twice in the text, or if it defines a macro of the file as something else.
 
 Examples:
   bibkeep insert refs.bib 0 --print < entry.bib | diff -u refs.bib -
@@ -444,12 +446,18 @@ Each entry has its inherited fields, and macros are expanded. Fields that RIS ha
 Examples:
   bibkeep ris refs.bib knuth86 lamport86
   bibkeep ris refs.bib '*' > refs.ris   # every entry
+  bibkeep ris refs.bib --plain '*'      # accents as letters, and no braces
   bibkeep ris refs.bib --dropped '*'    # what the RIS text leaves out",
     )?
     .arg(switch(
         alloc,
         "dropped",
         "Lists the fields that RIS leaves out, as key, tab and field, instead of the RIS text",
+    ))?
+    .arg(switch(
+        alloc,
+        "plain",
+        "Writes texts without braces, and LaTeX's accents as Unicode, except url and doi",
     ))
 }
 
@@ -475,6 +483,23 @@ Examples:
 fn import<'a>(alloc: Global) -> Result<Command<'a>, AllocError>
     ensures { IfOk result (Reads import_line) }
 {
+    import_texts(alloc)?
+        .arg(switch(
+            alloc,
+            "skipped",
+            "Lists the lines that are skipped, each with its number in the input",
+        ))?
+        .arg(switch(
+            alloc,
+            "strict",
+            "Refuses the input if a line of it would be skipped",
+        ))
+}
+
+/// `import` without the options about skipped lines.
+fn import_texts<'a>(alloc: Global) -> Result<Command<'a>, AllocError>
+    ensures { IfOk result (Reads import_texts_line) }
+{
     over_file(
         alloc,
         "import",
@@ -482,10 +507,12 @@ fn import<'a>(alloc: Global) -> Result<Command<'a>, AllocError>
         "\
 A record's ID becomes the key if it is a valid key; otherwise an unused key is made of names and year. All entries are one
 change, which `bibkeep undo F` takes back. If one of them is refused, none is added. Texts are copied: what LaTeX takes for
-a command, such as & or %, stays one, unless --latex is given.
+a command, such as & or %, stays one, unless --latex is given. Lines with an unknown tag, and text between records, are
+skipped.
 
 Examples:
   bibkeep import refs.bib < citation.ris
+  bibkeep import refs.bib --skipped < citation.ris   # and the lines that were skipped
   bibkeep import refs.bib --latex < citation.ris   # of someone else
   bibkeep import refs.bib --print < citation.ris | diff -u refs.bib -
   printf 'TY  - BOOK\\nTI  - Type\\nER  - \\n' | bibkeep import refs.bib",

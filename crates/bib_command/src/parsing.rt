@@ -100,6 +100,8 @@ fn command_of(alloc: Global, name: &str, matches: &ArgMatches<'_>) -> Result<Com
         strict: is_given(matches, "strict"),
         latex: is_given(matches, "latex"),
         raw: is_given(matches, "raw"),
+        skipped: is_given(matches, "skipped"),
+        plain: is_given(matches, "plain"),
     })
 }
 

@@ -83,4 +83,14 @@ pub enum Edit {
         to: Text,
         key: Option<Text>,
     },
+    /// Adds a definition of the macro as this value after the last definition before the first entry.
+    DefineMacro {
+        name: Text,
+        value: Text,
+    },
+    /// Gives the definition of the macro this value.
+    SetMacro {
+        name: Text,
+        value: Text,
+    },
 }

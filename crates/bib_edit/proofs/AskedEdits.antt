@@ -4,8 +4,8 @@ use Rattle.bib_edit.proofs.Words.{regenerate_keys}
 use Rattle.bib_scan.proofs.PlaceOfFault.{value_or_failing}
 use Rattle.bib_edit.specs.Laws.{EditsAreAskedFor}
 use Rattle.edit_spec.specs.Edits as edits
-use Rattle.bib_data.specs.declared.edit.Edit.TheVariants.{RemoveEntry, MoveEntry, RenameMacro, InlineMacro, IntroduceMacro, SetType, UndefineMacro, RenameField}
-use Rattle.bib_edit.specs.Asking.{drop_field, remove_entry, rename_macro, inline_macro, introduce_macro, set_type, undefine_macro, rename_field}
+use Rattle.bib_data.specs.declared.edit.Edit.TheVariants.{RemoveEntry, MoveEntry, RenameMacro, InlineMacro, IntroduceMacro, SetType, UndefineMacro, RenameField, DefineMacro, SetMacro}
+use Rattle.bib_edit.specs.Asking.{drop_field, remove_entry, rename_macro, inline_macro, introduce_macro, set_type, undefine_macro, rename_field, define_macro, set_macro}
 
 pub of-set_field : (key field value : Text) (P : edits.Edit → Type 0) → ((v : Value) → Spells value v → P (edits.SetField key field v)) → OfEdit (SetField key field value) P
 of-set_field key field value P h e (set_field k f t v s) = h v s
@@ -15,7 +15,7 @@ of-drop_field key field P h e (drop_field k f) = h
 
 -- ---- some edit is asked for
 
-some_value : (t : Text) → (v : Value) × Spells t v
+pub some_value : (t : Text) → (v : Value) × Spells t v
 some_value t = ⊎_elim
     (λ is. (is.0, record { bytes = is.2; value = λ _. is.1 }))
     (λ none. (record { first = Digits t; links = [] }, record { bytes = append-nil t; value = λ is. absurd (none.1.fails is) }))
@@ -55,6 +55,8 @@ asked_for (IntroduceMacro name text) = (edits.IntroduceMacro name text, introduc
 asked_for (SetType key kind_name) = (edits.SetType key kind_name, set_type key kind_name)
 asked_for (UndefineMacro name) = (edits.UndefineMacro name, undefine_macro name)
 asked_for (RenameField from to key) = (edits.RenameField from to key, rename_field from to key)
+asked_for (DefineMacro name value) = let v = some_value value in (edits.DefineMacro name v.0, define_macro name value v.0 v.1)
+asked_for (SetMacro name value) = let v = some_value value in (edits.SetMacro name v.0, set_macro name value v.0 v.1)
 
 pub of-add_entry : (position : ℕ) (asked : NewEntry) (P : edits.Edit → Type 0) → ((new : edits.NewEntry) → SpellsEntry asked new → P (edits.AddEntry position new)) → OfEdit (AddEntry position asked) P
 of-add_entry position asked P h e (add_entry n a new spells) = h new spells
@@ -91,3 +93,9 @@ of-undefine_macro name P h e (undefine_macro n) = h
 
 pub of-rename_field : (from to : Text) (key : Option Text) (P : edits.Edit → Type 0) → P (edits.RenameField from to key) → OfEdit (RenameField from to key) P
 of-rename_field from to key P h e (rename_field f t k) = h
+
+pub of-define_macro : (name value : Text) (P : edits.Edit → Type 0) → ((v : Value) → Spells value v → P (edits.DefineMacro name v)) → OfEdit (DefineMacro name value) P
+of-define_macro name value P h e (define_macro n t v s) = h v s
+
+pub of-set_macro : (name value : Text) (P : edits.Edit → Type 0) → ((v : Value) → Spells value v → P (edits.SetMacro name v)) → OfEdit (SetMacro name value) P
+of-set_macro name value P h e (set_macro n t v s) = h v s

@@ -1,5 +1,5 @@
 -- The name that a definition gives a text.
-use Rattle.bib_edit.proofs.Words.{◌≡◌, ℕ, ◌+◌, ◌<◌, ◌^◌, true, List, [], ◌∷◌, ◌++◌, Some, slice_get, length, refl, sym, ◌∙◌, ap, arith, length-append, Text, same, Definition, Tree, CommentTree, DefinitionTree, PreambleTree, EntryTree, opening_bytes, definition_bytes, assignment_bytes, close_byte}
+use Rattle.bib_edit.proofs.Words.{◌≡◌, ℕ, ◌+◌, ◌<◌, ◌^◌, true, List, [], ◌∷◌, ◌++◌, Some, slice_get, length, refl, sym, ◌∙◌, ap, arith, length-append, Text, same, Definition, Tree, CommentTree, DefinitionTree, PreambleTree, EntryTree, opening_bytes, definition_bytes, assignment_bytes, close_byte, value_bytes, bytes_before_value, equals_sign, append_assoc}
 use Rattle.bib_edit.proofs.Words.{Item, Reading, Reads, IsOpenable, defines, false≢true, Field, View, view_of, start_of, OfReading, first_item, IsDefinitionAt, IsDefinitionNumber, item-ends}
 use Rattle.bib_edit.proofs.FirstItems.{IsFirstItem, found_first, item-first}
 
@@ -24,6 +24,20 @@ first-definition name db n found =
     let first : IsFirstItem (defines name) db.items n = found_first (defines name) db.items n found in
     let d = defining name first.item first.passes in
     (d.0, (first.item.trail, item-first (defines name) db.items n first ∙ ap Some d.1), d.2)
+
+-- a definition is the bytes before its value, the value, and the bytes after it
+value_regroup : (o n x y v s c : Text) → o ++ (n ++ x ++ y ++ v ++ s) ++ c ≡ (o ++ n ++ x ++ y) ++ (v ++ (s ++ c))
+value_regroup o n x y v s c = simp append_assoc
+
+before_regroup : (o n x y : Text) → o ++ n ++ x ++ y ≡ o ++ (n ++ (x ++ y))
+before_regroup o n x y = simp append_assoc
+
+-- the bytes before the value, as a view counts them
+abbrev before_value : Definition → Text
+before_value d = opening_bytes d.opening ++ d.assignment.name ++ d.assignment.space_before_equals ++ equals_sign ∷ d.assignment.space_before_value
+
+pub value-at : (d : Definition) → length (before_value d) ≡ length (opening_bytes d.opening ++ bytes_before_value d.assignment)
+value-at d = ap length (before_regroup (opening_bytes d.opening) d.assignment.name d.assignment.space_before_equals (equals_sign ∷ d.assignment.space_before_value))
 
 module _ (file : Text) (n : ℕ) (view : View) (fields : List Field) (is : IsOpenable file) (number : IsDefinitionNumber file n)
     (seen : OfReading file (λ db. (i : Item) → slice_get db.items n ≡ Some i → view ≡ view_of i)) (same_fields : fields ≡ view.fields) where
@@ -59,3 +73,25 @@ module _ (file : Text) (n : ℕ) (view : View) (fields : List Field) (is : IsOpe
           name_first : List Field → ℕ
           name_first [] = 0
           name_first (f ∷ fs) = f.name_at
+
+  pub value-within : (field : Field) (rest : List Field) (place : ℕ) → fields ≡ field ∷ rest → OfReading file (λ db. place ≡ start_of db n) → place + field.value_at < 2 ^ 64
+  value-within field rest place head begins =
+      let db = is.0 in
+      let reads = is.1.reads in
+      let d = number db reads in
+      let ends = item-ends file db n (definition_item d.0 d.1.0) reads d.1.1 in
+      let short = is.1.short in
+      let start = begins db reads in
+      let its : length (before_value d.0) ≡ field.value_at = head_value (sym (name-there db reads d.0 d.1.0 d.1.1) ∙ head) in
+      let body = length-append (definition_bytes d.0) d.1.0 in
+      let parts = ap length (value_regroup (opening_bytes d.0.opening) d.0.assignment.name d.0.assignment.space_before_equals (equals_sign ∷ d.0.assignment.space_before_value)
+      (value_bytes d.0.assignment.value) d.0.assignment.space_after (close_byte d.0.opening.delimiter ∷ [])) in
+      let inner = length-append (before_value d.0) (value_bytes d.0.assignment.value ++ (d.0.assignment.space_after ++ close_byte d.0.opening.delimiter ∷ [])) in
+      omega (arith, ends, short, start, its, body, parts, inner)
+    where
+      head_value : {f g : Field} {fs gs : List Field} → f ∷ fs ≡ g ∷ gs → f.value_at ≡ g.value_at
+      head_value e = ap value_first e
+        where
+          value_first : List Field → ℕ
+          value_first [] = 0
+          value_first (f ∷ fs) = f.value_at

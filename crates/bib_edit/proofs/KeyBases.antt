@@ -19,3 +19,5 @@ has_key_base (edits.AddMany news) = tt
 has_key_base (edits.SetType key kind_name) = tt
 has_key_base (edits.UndefineMacro name) = tt
 has_key_base (edits.RenameField from to key) = tt
+has_key_base (edits.DefineMacro name value) = tt
+has_key_base (edits.SetMacro name value) = tt

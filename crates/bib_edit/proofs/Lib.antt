@@ -65,6 +65,10 @@ pub mod RenamedMacro
 pub mod KeptTrails
 pub mod InlinedMacro
 pub mod UndefinedMacro
+pub mod TriedPieces
+pub mod DefinitionsEnd
+pub mod DefinedMacro
+pub mod MacroSettings
 pub mod NamedFields
 pub mod RenamedPieces
 pub mod RenamedFields

@@ -5,7 +5,7 @@ use Rattle.bib_spec.specs.Tree.{Value}
 use Rattle.edit_spec.specs.Edits as edits
 use Rattle.edit_spec.specs.Edits.{Spells}
 use Rattle.bib_data.specs.declared.edit.Edit.{Edit}
-use Rattle.bib_data.specs.declared.edit.Edit.TheVariants.{SetField, DropField, AddEntry, AddMany, RemoveEntry, MoveEntry, RenameKey, RegenerateKeys, RenameMacro, InlineMacro, IntroduceMacro, SetType, UndefineMacro, RenameField}
+use Rattle.bib_data.specs.declared.edit.Edit.TheVariants.{SetField, DropField, AddEntry, AddMany, RemoveEntry, MoveEntry, RenameKey, RegenerateKeys, RenameMacro, InlineMacro, IntroduceMacro, SetType, UndefineMacro, RenameField, DefineMacro, SetMacro}
 use Rattle.bib_data.specs.declared.edit.NewEntry.{NewEntry}
 
 -- the values are what the bytes of the fields say
@@ -44,6 +44,8 @@ pub data AsksFor : Edit → edits.Edit → Type 0 where
   set_type : (key kind_name : Text) → AsksFor (SetType key kind_name) (edits.SetType key kind_name)
   undefine_macro : (name : Text) → AsksFor (UndefineMacro name) (edits.UndefineMacro name)
   rename_field : (from to : Text) (key : Option Text) → AsksFor (RenameField from to key) (edits.RenameField from to key)
+  define_macro : (name value : Text) (v : Value) → Spells value v → AsksFor (DefineMacro name value) (edits.DefineMacro name v)
+  set_macro : (name value : Text) (v : Value) → Spells value v → AsksFor (SetMacro name value) (edits.SetMacro name v)
 
 -- it holds of the edit that is asked for
 abbrev pub OfEdit : Edit → (edits.Edit → Type 0) → Type 0

@@ -3,9 +3,9 @@ use Rattle.std.specs.Prelude.{ℕ, ◌≡◌, ◌+◌, ◌<◌, Bool, not, ◌&&
 use Rattle.std.specs.List.{list_any}
 use Rattle.bib_spec.specs.Bytes.{open_brace, close_brace}
 use Rattle.bib_spec.specs.Text.{Text, folded, same}
-use Rattle.bib_spec.specs.Tree.{Definition, DefinitionTree, opening_bytes}
+use Rattle.bib_spec.specs.Tree.{Definition, DefinitionTree, opening_bytes, value_bytes}
 use Rattle.bib_spec.specs.Reading.{Item, Reading}
-use Rattle.bib_spec.specs.Texts.{months}
+use Rattle.bib_spec.specs.Texts.{months, bytes_before_value}
 use Rattle.bib_store.specs.Readings.{OfReading}
 use Rattle.part_spec.specs.Parts.{uses, have_part}
 use Rattle.edit_spec.specs.Edits.{defines, definitions}
@@ -34,6 +34,10 @@ IsDefinitionNumber file n = OfReading file (λ db. (d : Definition) × IsDefinit
 -- the name of a definition, with its place, where the definition begins at this one
 abbrev pub name_token : ℕ → Definition → ℕ × Text
 name_token at d = (at + length (opening_bytes d.opening), d.assignment.name)
+
+-- the value of a definition, with its place, where the definition begins at this one
+abbrev pub value_token : ℕ → Definition → ℕ × Text
+value_token at d = (at + length (opening_bytes d.opening ++ bytes_before_value d.assignment), value_bytes d.assignment.value)
 
 -- the text in braces
 abbrev pub braced : Text → Text

@@ -14,6 +14,7 @@ pub mod NewKeys
 pub mod Replacing
 pub mod RenamedFields
 pub mod Definitions
+pub mod MacroValues
 pub mod Laws
 pub mod Insertions
 pub mod Positions

@@ -6,7 +6,7 @@ ghost use Rattle.bib_spec.specs.Tree.{Definition};
 ghost use Rattle.edit_spec.specs.Edits.{text_of_macro};
 ghost use Rattle.bib_scan.specs.Layout.{start_of};
 ghost use Rattle.bib_store.specs.Readings.{OfReading};
-ghost use Rattle.bib_edit.specs.Definitions.{IsDefinedAt, IsDefinitionFault, IsDefinitionAt, IsDefinitionNumber, braced, name_token, is_given};
+ghost use Rattle.bib_edit.specs.Definitions.{IsDefinedAt, IsDefinitionFault, IsDefinitionAt, IsDefinitionNumber, braced, name_token, value_token, is_given};
 ghost use Rattle.bib_tokens.specs.PlacedParts.{token_seen};
 
 use crate::fault::EditFault;
@@ -44,6 +44,19 @@ pub(crate) fn name_of<L: ItemList>(db: &Database<L>, n: usize) -> Option<Token<'
     Some(Token {
         place: db.item_place(n) + field.name_at,
         bytes: field.name,
+    })
+}
+
+/// The value in item `n`, which is a definition, with its place.
+pub(crate) fn value_of<L: ItemList>(db: &Database<L>, n: usize) -> Option<Token<'_>>
+    requires { IsDefinitionNumber db.now n }
+    ensures { OfReading db.now (λ r. (d : Definition) → IsDefinitionAt r.items n d → option_map token_seen result ≡ Some (value_token (start_of r n) d)) }
+{
+    db.opens();
+    let field = db.item(n).fields().next()?;
+    Some(Token {
+        place: db.item_place(n) + field.value_at,
+        bytes: field.value,
     })
 }
 

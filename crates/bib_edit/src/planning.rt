@@ -6,6 +6,7 @@ ghost use Rattle.bib_edit.specs.Planning.{IsAllowedEdit, ArePiecesOf, IsRefusal}
 
 use crate::add_entry::add_entry;
 use crate::add_many::add_many;
+use crate::define_macro::define_macro;
 use crate::drop_field::drop_field;
 use crate::fault::EditFault;
 use crate::inline_macro::inline_macro;
@@ -17,6 +18,7 @@ use crate::rename_field::{rename_in_all, rename_in_entry};
 use crate::rename_key::rename_key;
 use crate::rename_macro::rename_macro;
 use crate::set_field::set_field;
+use crate::set_macro::set_macro;
 use crate::set_type::set_type;
 use crate::undefine_macro::undefine_macro;
 use bib_data::Edit;
@@ -28,7 +30,8 @@ use std::alloc::Global;
 /// length of the edit and of the entries that it changes, beside what the database takes to find these and their
 /// places; new keys for all entries take time in the length of the file, old and new. So does an edit of macros, unless
 /// `Database::note_parts` was called before: then it takes time in the length of the pages of items that have what it
-/// seeks. Want of memory may come before any other reason. (dialect)
+/// seeks. An edit that gives a macro a value takes time and memory as opening the file does. Want of memory may come before any
+/// other reason. (dialect)
 pub fn plan<L: ItemList>(
     alloc: Global,
     db: &Database<L>,
@@ -77,5 +80,11 @@ pub fn plan<L: ItemList>(
             to,
             key: Some(key),
         } => rename_in_entry(alloc, db, from.as_slice(), to.as_slice(), key.as_slice()),
+        Edit::DefineMacro { name, value } => {
+            define_macro(alloc, db, name.as_slice(), value.as_slice())
+        }
+        Edit::SetMacro { name, value } => {
+            set_macro(alloc, db, name.as_slice(), value.as_slice())
+        }
     }
 }

@@ -122,9 +122,15 @@ fn hint_key(lines: &mut Lines, edit: &Edit<'_>) -> Result<(), AllocError> {
     )
 }
 
+/// Whether the edit gives a macro a value, which is its third word.
+fn gives_macro_value(edit: &Edit<'_>) -> bool {
+    edit.is_named(b"define") || edit.is_named(b"set-macro")
+}
+
 /// Whether the second word alone is to be the name of a macro.
 fn names_macro_first(edit: &Edit<'_>) -> bool {
-    edit.is_named(b"introduce") || edit.is_named(b"inline") || edit.is_named(b"undefine")
+    let is_used_or_not = edit.is_named(b"inline") || edit.is_named(b"undefine");
+    is_used_or_not || edit.is_named(b"introduce") || gives_macro_value(edit)
 }
 
 fn hint_name(lines: &mut Lines, edit: &Edit<'_>) -> Result<(), AllocError> {
@@ -167,6 +173,9 @@ fn hint_value(lines: &mut Lines, edit: &Edit<'_>) -> Result<(), AllocError> {
     if edit.is_named(b"introduce") {
         let parts = [Part::Name(edit.word(2))];
         return lines.say(b"the braces of the text % do not match", &parts);
+    }
+    if gives_macro_value(edit) {
+        return hint_bad_value(lines, edit.word(2));
     }
     let alloc = lines.alloc();
     let mut n = 0usize;
@@ -215,9 +224,10 @@ fn hint_position(lines: &mut Lines, edit: &Edit<'_>) -> Result<(), AllocError> {
     hint_number(lines, edit.name, count)
 }
 
-/// Whether the second word is the name of a macro.
+/// Whether the second word is the name of a macro that has a definition.
 fn is_about_macro(edit: &Edit<'_>) -> bool {
-    edit.is_named(b"rename-macro") || edit.is_named(b"inline") || edit.is_named(b"undefine")
+    let is_removed = edit.is_named(b"inline") || edit.is_named(b"undefine");
+    is_removed || edit.is_named(b"rename-macro") || edit.is_named(b"set-macro")
 }
 
 fn hint_missing(lines: &mut Lines, edit: &Edit<'_>) -> Result<(), AllocError> {
@@ -396,7 +406,7 @@ fn is_child_of(item: &Item<'_>, key: &[u8]) -> bool {
 }
 
 fn hint_name_in_use(lines: &mut Lines, edit: &Edit<'_>) -> Result<(), AllocError> {
-    let name = if edit.is_named(b"introduce") {
+    let name = if names_macro_first(edit) {
         edit.word(1)
     } else {
         edit.word(2)
@@ -409,7 +419,8 @@ fn hint_name_in_use(lines: &mut Lines, edit: &Edit<'_>) -> Result<(), AllocError
             Part::Name(name),
             Part::Count(line_of(edit.file, item.start)),
         ];
-        return lines.say(b"the macro % is defined in line % already", &parts);
+        lines.say(b"the macro % is defined in line % already", &parts)?;
+        return hint_set_macro(lines, edit);
     }
     let parts = [Part::Name(name)];
     if is_month(name) {
@@ -417,6 +428,22 @@ fn hint_name_in_use(lines: &mut Lines, edit: &Edit<'_>) -> Result<(), AllocError
     }
     lines.say(
         b"a value uses the name % already, and nothing defines it",
+        &parts,
+    )
+}
+
+/// How a macro that is defined gets another value, if the edit was to define it.
+fn hint_set_macro(lines: &mut Lines, edit: &Edit<'_>) -> Result<(), AllocError> {
+    if !edit.is_named(b"define") {
+        return Ok(());
+    }
+    let parts = [
+        Part::Typed(edit.name, b"F"),
+        Part::Typed(edit.word(1), b"NAME"),
+        Part::Typed(edit.word(2), b"VALUE"),
+    ];
+    lines.say(
+        b"bibkeep edit % set-macro % % gives it another value",
         &parts,
     )
 }

@@ -63,6 +63,7 @@ pub fn hint_import(lines: &mut Lines, asked: &Asked<'_>, said: Said) -> Result<(
             )
         }
         (64, _) => hint_unbalanced(lines, asked.input, asked.command.latex),
+        (65, Some(place)) => hint_skipped(lines, asked, place),
         (37, _) => hint_id(lines, asked),
         _ => hint_fault(lines, asked, said),
     }
@@ -102,6 +103,18 @@ fn hint_unended(lines: &mut Lines, input: &[u8], place: usize) -> Result<(), All
         &parts,
     )?;
     lines.say(b"write before that line: ER  - ", &[])
+}
+
+/// The first line that would be skipped, and how all are listed.
+fn hint_skipped(lines: &mut Lines, asked: &Asked<'_>, place: usize) -> Result<(), AllocError> {
+    let line = line_of(asked.input, place);
+    let parts = [Part::Count(line), Part::Name(line_in(asked.input, line))];
+    lines.say(b"line % of the input: %", &parts)?;
+    let typed = [Part::Typed(asked.name(), b"F")];
+    lines.say(
+        b"all such lines are listed by: bibkeep import % --skipped < FILE",
+        &typed,
+    )
 }
 
 /// The first line of a record whose text has braces that do not match; with `--latex` the first such URL or DOI.

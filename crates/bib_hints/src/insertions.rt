@@ -3,7 +3,9 @@
 use crate::asking::Asked;
 use crate::edits::{Edit, hint_edit};
 use crate::faults::{hint_fault, hint_place};
-use crate::items::{defined_by, first_definitions, first_holders, items_of, line_of, note_first};
+use crate::items::{
+    Item, defined_by, first_definitions, first_holders, items_of, line_of, note_first,
+};
 use crate::lines::Lines;
 use crate::parts::Part;
 use crate::said::Said;
@@ -79,30 +81,66 @@ fn hint_other_key(lines: &mut Lines) -> Result<(), AllocError> {
     )
 }
 
-/// The first macro that the input defines and the file too.
+/// A definition of the input, with its macro and the place of the file's definition.
+#[derive(Drop)]
+struct Taken<'a> {
+    item: Item<'a>,
+    name: &'a [u8],
+    start: usize,
+}
+
+/// The first macro that the input defines and the file too: one that both define in other bytes, if there is one.
 fn hint_taken_macro(lines: &mut Lines, asked: &Asked<'_>) -> Result<(), AllocError> {
     let alloc = lines.alloc();
     let starts = first_definitions(alloc, asked.file)?;
     let items = items_of(alloc, asked.input)?;
-    'items: for item in items.as_slice() {
+    let other = first_taken(asked, &starts, items.as_slice(), false);
+    let Some(taken) = other.or(first_taken(asked, &starts, items.as_slice(), true)) else {
+        return Ok(());
+    };
+    let parts = [
+        Part::Count(line_of(asked.input, taken.item.start)),
+        Part::Name(taken.name),
+        Part::Count(line_of(asked.file, taken.start)),
+        Part::Name(asked.name()),
+    ];
+    lines.say(
+        b"line % of the input defines the macro %, as line % of % does",
+        &parts,
+    )?;
+    lines.say(
+        b"leave the definition out of the input, if both give the same text",
+        &[],
+    )
+}
+
+/// The first definition of the input whose macro the file defines; `same` says whether one with the same bytes counts.
+fn first_taken<'a>(
+    asked: &Asked<'_>,
+    starts: &FoldedMap<usize>,
+    items: &[Item<'a>],
+    same: bool,
+) -> Option<Taken<'a>> {
+    'items: for item in items {
         if let Some(name) = defined_by(item) {
             if let Some(start) = starts.get(name) {
-                let parts = [
-                    Part::Count(line_of(asked.input, item.start)),
-                    Part::Name(name),
-                    Part::Count(line_of(asked.file, *start)),
-                    Part::Name(asked.name()),
-                ];
-                lines.say(
-                    b"line % of the input defines the macro %, as line % of % does",
-                    &parts,
-                )?;
-                return lines.say(
-                    b"leave the definition out of the input, if both give the same text",
-                    &[],
-                );
+                if same || !stands_at(asked.file, *start, item.body) {
+                    return Some(Taken {
+                        item: *item,
+                        name,
+                        start: *start,
+                    });
+                }
             }
         }
     }
-    Ok(())
+    None
+}
+
+/// Whether these bytes are those of the file from this place on.
+fn stands_at(file: &[u8], start: usize, bytes: &[u8]) -> bool {
+    match file.get(start..) {
+        Some(rest) => rest.starts_with(bytes),
+        None => false,
+    }
 }

@@ -49,6 +49,16 @@ fn form_of_macro_edit(verb: &[u8]) -> &'static [u8] {
     if verb == b"undefine".as_slice() {
         return b"undefine NAME";
     }
+    form_of_definition(verb)
+}
+
+fn form_of_definition(verb: &[u8]) -> &'static [u8] {
+    if verb == b"define".as_slice() {
+        return b"define NAME VALUE";
+    }
+    if verb == b"set-macro".as_slice() {
+        return b"set-macro NAME VALUE";
+    }
     form_of_step(verb)
 }
 
@@ -69,7 +79,7 @@ pub fn is_verb(word: &[u8]) -> bool {
 
 /// The edits, in a line.
 pub const VERBS: &[u8] =
-    b"the edits: set drop add remove move set-type rename-key rename-field rename-macro inline introduce undefine regenerate; in a script also group end";
+    b"the edits: set drop add remove move set-type rename-key rename-field rename-macro inline introduce undefine define set-macro regenerate; in a script also group end";
 
 /// Whether the name is that of a month, which each file knows.
 pub fn is_month(name: &[u8]) -> bool {

@@ -1,6 +1,6 @@
 -- What renamings keep, of the files of a session.
 use Rattle.bib_journal.proofs.Words.{◌≡◌, ◌≢◌, ℕ, zero, suc, Bool, true, List, [], ◌∷◌, Option, Some, None, take, refl, sym, ◌∙◌, ap, subst, false≢true, name_limit, Text, Reading, Reads, bytes_of, one_reading, IsAccepted, KeptSteps, history_of, Edit, SetField, DropField, AddEntry, AddMany}
-use Rattle.bib_journal.proofs.Words.{RemoveEntry, MoveEntry, RenameKey, RegenerateKeys, RenameMacro, InlineMacro, IntroduceMacro, SetType, UndefineMacro, RenameField, Request, EditFault, made_base, AsksFor, OfEdit, asked_for, has_key_base, SessionState, DoesAll, OfReadings}
+use Rattle.bib_journal.proofs.Words.{RemoveEntry, MoveEntry, RenameKey, RegenerateKeys, RenameMacro, InlineMacro, IntroduceMacro, SetType, UndefineMacro, RenameField, DefineMacro, SetMacro, Request, EditFault, made_base, AsksFor, OfEdit, asked_for, has_key_base, SessionState, DoesAll, OfReadings}
 use Rattle.std.proofs.Common.{◌&&◌, option_map, slice_get}
 use Rattle.std.specs.List.{list_all}
 use Rattle.std.proofs.lemmas.Bool.{and_parts}
@@ -14,11 +14,14 @@ use Rattle.edit_spec.proofs.Regenerate.{regenerate-keys-keeps, made-keys-differ,
 use Rattle.edit_spec.proofs.SetType.{set-type-keeps}
 use Rattle.edit_spec.proofs.UndefineMacro.{undefine-macro-keeps}
 use Rattle.edit_spec.proofs.RenameField.{rename-field-keeps}
+use Rattle.edit_spec.proofs.DefineMacro.{define-macro-keeps}
+use Rattle.edit_spec.proofs.SetMacro.{set-macro-keeps}
 use Rattle.edit_spec.proofs.MacroLaws.{rename-macro-keeps, inline-macro-keeps, introduce-macro-keeps}
 use Rattle.bib_data.specs.declared.request.Request.TheVariants as request
 use Rattle.bib_edit.specs.declared.fault.EditFault.TheVariants as edit_fault
-use Rattle.bib_edit.specs.Asking.{rename_key, regenerate_keys, rename_macro, inline_macro, introduce_macro, set_type, undefine_macro, rename_field}
+use Rattle.bib_edit.specs.Asking.{rename_key, regenerate_keys, rename_macro, inline_macro, introduce_macro, set_type, undefine_macro, rename_field, define_macro, set_macro}
 use Rattle.bib_edit.specs.Planning.{IsRefusal}
+use Rattle.bib_edit.proofs.AskedEdits.{some_value}
 use Rattle.bib_journal.proofs.MadeFiles.{moved_present, made-reads, of-made}
 use Rattle.bib_journal.specs.Renaming.{Keeps, edit_keeps, keys_are_made_once, is_renaming, without_key, KeepsTexts, requests_keep}
 
@@ -50,6 +53,14 @@ made-keeps (UndefineMacro name) db db' allowed is =
 made-keeps (RenameField from to key) db db' allowed is =
     subst (Keeps (RenameField from to key) db) (sym (is (edits.RenameField from to key) (rename_field from to key)))
     (rename-field-keeps made_base db from to key (allowed (edits.RenameField from to key) (rename_field from to key)))
+made-keeps (DefineMacro name value) db db' allowed is =
+    let v = some_value value in
+    let asked = define_macro name value v.0 v.1 in
+    subst (Keeps (DefineMacro name value) db) (sym (is (edits.DefineMacro name v.0) asked)) (define-macro-keeps made_base db name v.0 (allowed (edits.DefineMacro name v.0) asked))
+made-keeps (SetMacro name value) db db' allowed is =
+    let v = some_value value in
+    let asked = set_macro name value v.0 v.1 in
+    subst (Keeps (SetMacro name value) db) (sym (is (edits.SetMacro name v.0) asked)) (set-macro-keeps made_base db name v.0 (allowed (edits.SetMacro name v.0) asked))
 made-keeps (SetField key field value) db db' allowed is = tt
 made-keeps (DropField key field) db db' allowed is = tt
 made-keeps (AddEntry position entry) db db' allowed is = tt
@@ -116,6 +127,8 @@ renaming-texts (InlineMacro name) is old new keeps = keeps-texts no_new_key old 
 renaming-texts (IntroduceMacro name text) is old new keeps = keeps-texts no_new_key old new keeps.0
 renaming-texts (UndefineMacro name) is old new keeps = keeps-texts no_new_key old new keeps.0
 renaming-texts (RenameField from to key) is old new keeps = absurd (false≢true is)
+renaming-texts (DefineMacro name value) is old new keeps = absurd (false≢true is)
+renaming-texts (SetMacro name value) is old new keeps = absurd (false≢true is)
 renaming-texts (SetField key field value) is old new keeps = absurd (false≢true is)
 renaming-texts (DropField key field) is old new keeps = absurd (false≢true is)
 renaming-texts (AddEntry position entry) is old new keeps = absurd (false≢true is)

@@ -1,5 +1,5 @@
 -- What edits that add entries or remove one keep of the others, of the files of a session.
-use Rattle.bib_journal.proofs.Words.{◌≡◌, ℕ, [], ◌∷◌, length, sym, ◌∙◌, ap, subst, Text, Reading, IsAccepted, Edit, SetField, DropField, AddEntry, AddMany, RemoveEntry, MoveEntry, RenameKey, RegenerateKeys, RenameMacro, InlineMacro, IntroduceMacro, SetType, UndefineMacro, RenameField, made_base, OfEdit}
+use Rattle.bib_journal.proofs.Words.{◌≡◌, ℕ, [], ◌∷◌, length, sym, ◌∙◌, ap, subst, Text, Reading, IsAccepted, Edit, SetField, DropField, AddEntry, AddMany, RemoveEntry, MoveEntry, RenameKey, RegenerateKeys, RenameMacro, InlineMacro, IntroduceMacro, SetType, UndefineMacro, RenameField, DefineMacro, SetMacro, made_base, OfEdit}
 use Rattle.std.proofs.lemmas.List.{length-map}
 use Rattle.edit_spec.specs.Edits as edits
 use Rattle.edit_spec.specs.Edits.{edited}
@@ -41,6 +41,8 @@ made-others (IntroduceMacro name text) db db' allowed is = tt
 made-others (SetType key kind_name) db db' allowed is = tt
 made-others (UndefineMacro name) db db' allowed is = tt
 made-others (RenameField from to key) db db' allowed is = tt
+made-others (DefineMacro name value) db db' allowed is = tt
+made-others (SetMacro name value) db db' allowed is = tt
 
 pub others-are-kept : others_are_kept
 others-are-kept = of-made KeepsOtherEntries made-others

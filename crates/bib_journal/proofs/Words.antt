@@ -1,6 +1,6 @@
 -- The words that most proofs of this crate cite, passed on from one place. Declares nothing.
 pub use Rattle.bib_data.specs.declared.edit.Edit.{Edit}
-pub use Rattle.bib_data.specs.declared.edit.Edit.TheVariants.{AddEntry, AddMany, DropField, InlineMacro, IntroduceMacro, MoveEntry, RegenerateKeys, RemoveEntry, RenameKey, RenameMacro, SetField, SetType, UndefineMacro, RenameField}
+pub use Rattle.bib_data.specs.declared.edit.Edit.TheVariants.{AddEntry, AddMany, DropField, InlineMacro, IntroduceMacro, MoveEntry, RegenerateKeys, RemoveEntry, RenameKey, RenameMacro, SetField, SetType, UndefineMacro, RenameField, DefineMacro, SetMacro}
 pub use Rattle.bib_data.specs.declared.request.Request.{Request}
 pub use Rattle.bib_edit.proofs.AskedEdits.{asked_for}
 pub use Rattle.bib_edit.proofs.KeyBases.{has_key_base}

@@ -1,16 +1,16 @@
 -- What a session keeps of what its file says, when keys and macros change. (dialect)
-use Rattle.std.specs.Prelude.{ℕ, ◌≡◌, Bool, true, false, List, [], Option, option_map, length, slice_get}
+use Rattle.std.specs.Prelude.{ℕ, ◌≡◌, Bool, true, false, List, [], ◌∷◌, Option, option_map, length, slice_get}
 use Rattle.std.specs.List.{list_all}
 use Rattle.bib_spec.specs.Text.{Text}
 use Rattle.bib_spec.specs.Reading.{Reading}
 use Rattle.bib_spec.specs.Records.{Record, entries_of, preambles_of, keys_of, entry_named, parent, expanded}
 use Rattle.bib_spec.specs.MadeKeys.{new_keys}
 use Rattle.edit_spec.specs.Edits.{key_for}
-use Rattle.edit_spec.specs.Laws.{KeepsEntries, KeepsAllButNames, KeepsAllButTypes, is_renamed_in, KeepsMacros, KeepsCitations, KeepsCitationsByKey, SeesRenamed, SeesInlined, SeesIntroduced, SeesUndefined, AllDiffer, no_new_key, type_for}
+use Rattle.edit_spec.specs.Laws.{KeepsEntries, KeepsAllButNames, KeepsAllButTypes, KeepsAllButUsers, KeepsIfUnused, dependents, is_renamed_in, KeepsMacros, KeepsCitations, KeepsCitationsByKey, SeesRenamed, SeesInlined, SeesIntroduced, SeesUndefined, AllDiffer, no_new_key, type_for}
 use Rattle.history_spec.specs.Steps.{IsSound}
 use Rattle.bib_store.specs.Readings.{OfReading}
 use Rattle.bib_data.specs.declared.edit.Edit.{Edit}
-use Rattle.bib_data.specs.declared.edit.Edit.TheVariants.{RenameKey, RegenerateKeys, RenameMacro, InlineMacro, IntroduceMacro, SetType, UndefineMacro, RenameField}
+use Rattle.bib_data.specs.declared.edit.Edit.TheVariants.{RenameKey, RegenerateKeys, RenameMacro, InlineMacro, IntroduceMacro, SetType, UndefineMacro, RenameField, DefineMacro, SetMacro}
 use Rattle.bib_data.specs.declared.request.Request.{Request}
 use Rattle.bib_data.specs.declared.request.Request.TheVariants as request
 use Rattle.bib_edit.specs.declared.fault.EditFault.{EditFault}
@@ -24,7 +24,9 @@ use Rattle.bib_journal.specs.Session.{MakesEdit, RefusesEdit, Performs}
 
 -- What a renaming keeps: each entry's record and parent, each preamble, what each macro stands for, and each cited list are
 -- what they were, except the names that it gives. Keys that are made all differ. An entry that gets another type keeps all but
--- that type, and entries whose fields get another name keep all but these names. Nothing is said here about other edits.
+-- that type, and entries whose fields get another name keep all but these names. A macro that nothing uses is defined, and all is
+-- what it was, except for that macro; a macro gets another value, and all is that does not depend on it. Nothing is said here about
+-- other edits.
 abbrev pub Keeps : Edit → Reading → Reading → Type 0
 Keeps (RenameKey from to) old new = KeepsEntries (key_for (entry_named (entries_of old) from) to) old new × KeepsMacros old new × KeepsCitationsByKey old new
 Keeps (RegenerateKeys depth) old new =
@@ -34,6 +36,8 @@ Keeps (InlineMacro name) old new = KeepsEntries no_new_key old new × KeepsCitat
 Keeps (IntroduceMacro name text) old new = KeepsEntries no_new_key old new × KeepsCitations old new × SeesIntroduced name text old new
 Keeps (UndefineMacro name) old new = KeepsEntries no_new_key old new × KeepsCitations old new × SeesUndefined name old new
 Keeps (RenameField from to key) old new = KeepsAllButNames from to (is_renamed_in old key) old new × KeepsMacros old new × KeepsCitations old new
+Keeps (DefineMacro name value) old new = KeepsIfUnused name old new
+Keeps (SetMacro name value) old new = KeepsAllButUsers (dependents (name ∷ []) old.items) old new
 Keeps (SetType key kind_name) old new = KeepsAllButTypes (type_for (entry_named (entries_of old) key) kind_name) old new × KeepsMacros old new × KeepsCitations old new
 Keeps other old new = Unit {0}
 

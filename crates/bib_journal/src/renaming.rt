@@ -5,7 +5,9 @@ ghost use Rattle.bib_journal.specs.Renaming.{edit_keeps, keys_are_made_once, req
 /// Renaming keeps every record. If `Session::edit` renames a key or a macro, makes all keys again, writes a macro's text
 /// for its uses, gives a text a name or removes a definition that nothing uses, each entry's record and parent, each preamble,
 /// what each macro stands for at each item, and each cited list are as they were, except the names that the edit gives. If it
-/// renames fields, each entry's own texts are as they were, except the names of these fields, and all else is.
+/// renames fields, each entry's own texts are as they were, except the names of these fields, and all else is. If it defines a
+/// macro that nothing uses, all else is as it was. If it gives a macro another value, each entry's texts that use neither the
+/// macro nor one that depends on it are as they were.
 pub fn renaming_keeps_every_record()
     ensures { edit_keeps }
 {}

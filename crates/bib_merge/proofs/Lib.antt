@@ -1,4 +1,6 @@
 pub mod FollowedFiles
 pub mod Spaces
+pub mod UnitItems
+pub mod ItemsMet
 pub mod UnchangedSides
 pub mod TakenFiles

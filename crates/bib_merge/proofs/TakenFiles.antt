@@ -1,7 +1,7 @@
 -- A file of one side as a merge.
 use Rattle.std.proofs.Common.{◌≡◌, ◌≢◌, List, [], refl, sym, ◌∙◌, ap, subst}
 use Rattle.bib_spec.specs.Text.{Text}
-use Rattle.bib_spec.specs.Reading.{Reading, Reads, bytes_of}
+use Rattle.bib_spec.specs.Reading.{Reading}
 use Rattle.bib_spec.specs.Texts.{Opens}
 use Rattle.bib_spec.specs.Records.{entries_of}
 use Rattle.merge_spec.specs.Parents.{lost_keys}
@@ -11,10 +11,9 @@ use Rattle.bib_uses.specs.declared.losing.LostUse.{LostUse}
 use Rattle.bib_merge.specs.Merges.{IsMergeOf, IsMergeOfThree, IsFile, LeavesTheOther, AllDiffer}
 use Rattle.bib_merge.proofs.UnchangedSides.{ours-left, theirs-left, sides-same}
 
--- the text of a merge as other bytes that are the same
-of_bytes : (rb ro rt : Reading) (bytes text : Text) (conflicts : List Conflict) → bytes ≡ text → conflicts ≡ [] → IsMergeOf [] rb ro rt bytes [] → IsMergeOf [] rb ro rt text conflicts
-of_bytes rb ro rt bytes text conflicts is none merge =
-    subst (λ (t : Text). IsMergeOf [] rb ro rt t conflicts) is (subst (λ (cs : List Conflict). IsMergeOf [] rb ro rt bytes cs) (sym none) merge)
+-- a merge with other conflicts that are none
+no_conflicts : (rb ro rt rm : Reading) (conflicts : List Conflict) → conflicts ≡ [] → IsMergeOf [] rb ro rt rm [] → IsMergeOf [] rb ro rt rm conflicts
+no_conflicts rb ro rt rm conflicts none merge = subst (λ (cs : List Conflict). IsMergeOf [] rb ro rt rm cs) (sym none) merge
 
 -- we left the common file
 pub ours_taken : (base ours theirs text : Text) (conflicts : List Conflict) (lost : List Text) (uses : List LostUse) (rb rt : Reading) → ours ≡ base → text ≡ theirs → conflicts ≡ []
@@ -28,7 +27,7 @@ ours_taken base ours theirs text conflicts lost uses rb rt same_ours is none ope
   ours_opens = subst (λ (f : Text). Opens f rb) (sym same_ours) opens_b;
   theirs_opens = opens_t;
   text_opens = subst (λ (f : Text). Opens f rt) (sym is) opens_t;
-  merge = of_bytes rb rb rt (bytes_of rt) text conflicts (opens_t.reads.bytes ∙ sym is) none (ours-left rb rt);
+  merge = no_conflicts rb rb rt rt conflicts none (ours-left rb rt);
   lose = lose;
   change = change;
 }
@@ -45,7 +44,7 @@ theirs_taken base ours theirs text conflicts lost uses rb ro same_theirs is none
   ours_opens = opens_o;
   theirs_opens = subst (λ (f : Text). Opens f rb) (sym same_theirs) opens_b;
   text_opens = subst (λ (f : Text). Opens f ro) (sym is) opens_o;
-  merge = of_bytes rb ro rb (bytes_of ro) text conflicts (opens_o.reads.bytes ∙ sym is) none (theirs-left rb ro);
+  merge = no_conflicts rb ro rb ro conflicts none (theirs-left rb ro);
   lose = lose;
   change = change;
 }
@@ -62,7 +61,7 @@ same_taken base ours theirs text conflicts lost uses rb rt same_sides is none op
   ours_opens = subst (λ (f : Text). Opens f rt) (sym same_sides) opens_t;
   theirs_opens = opens_t;
   text_opens = subst (λ (f : Text). Opens f rt) (sym is) opens_t;
-  merge = of_bytes rb rt rt (bytes_of rt) text conflicts (opens_t.reads.bytes ∙ sym is) none (sides-same rb rt);
+  merge = no_conflicts rb rt rt rt conflicts none (sides-same rb rt);
   lose = lose;
   change = change;
 }

@@ -16,7 +16,9 @@ use Rattle.merge_spec.specs.ThreeWay.{Outcome, Ours, Theirs, Gone, both_agree, i
 use Rattle.merge_spec.specs.Merged.{Place, unit_at, is_number, are_once, share_label, may_come, is_settled, place_bytes, merged_bytes, label_left, labels_left, is_seldom, are_seldom, is_merge}
 use Rattle.merge_spec.specs.Conflicts.{Conflict, conflict_at, conflicts_of}
 use Rattle.merge_spec.proofs.UnitTexts.{units-are_the_file}
+use Rattle.bib_merge.specs.Bodies.{bodies_of, version_bodies, place_bodies, merged_bodies}
 use Rattle.bib_merge.specs.Merges.{IsMergeOf}
+use Rattle.bib_merge.proofs.UnitItems.{units-have_items}
 use Rattle.bib_merge.proofs.Spaces.{ends_in_space, units-end_in_space}
 
 -- ---- numbers
@@ -343,6 +345,23 @@ left-bytes ours theirs db first second n gone kept =
     each [] = refl
     each (k ∷ ks) = ap₂ (λ a b. a ++ b) (kept k) (each ks)
 
+-- the bodies of the items of what is left
+left-bodies : (ours theirs : List Unit) (db : Reading) (first second : ℕ → Place) (n : ℕ) → ((k : ℕ) → place_bodies ours theirs (first k) ≡ [])
+    → ((k : ℕ) → place_bodies ours theirs (second k) ≡ version_bodies (slice_get (units_of db) k)) → merged_bodies ours theirs (both_ranges first n second (length (units_of db))) ≡ bodies_of db
+left-bodies ours theirs db first second n gone kept =
+    flat_map-append (place_bodies ours theirs) (map first (range_with_len 0 n)) (map second (range_with_len 0 (length (units_of db))))
+    ∙ ap (λ l. l ++ flat_map (place_bodies ours theirs) (map second (range_with_len 0 (length (units_of db))))) (nothing-given (place_bodies ours theirs) first (range_with_len 0 n) gone)
+    ∙ flat_map-map (place_bodies ours theirs) second (range_with_len 0 (length (units_of db)))
+    ∙ each (range_with_len 0 (length (units_of db)))
+    ∙ sym (flat_map-map version_bodies (slice_get (units_of db)) (range_with_len 0 (length (units_of db))))
+    ∙ ap (flat_map version_bodies) (each-get (units_of db))
+    ∙ flat_map-map version_bodies (λ u. Some u) (units_of db)
+    ∙ units-have_items db
+  where
+    each : (ks : List ℕ) → flat_map (λ k. place_bodies ours theirs (second k)) ks ≡ flat_map (λ k. version_bodies (slice_get (units_of db) k)) ks
+    each [] = refl
+    each (k ∷ ks) = ap₂ (λ a b. a ++ b) (kept k) (each ks)
+
 -- nothing is told of places of which none is told
 none-told : (base ours theirs : List Unit) (first second : ℕ → Place) (n m : ℕ) → ((k : ℕ) → conflict_at base ours theirs (first k) ≡ []) → ((k : ℕ) → conflict_at base ours theirs (second k) ≡ [])
     → conflicts_of base ours theirs (both_ranges first n second m) ≡ []
@@ -351,7 +370,7 @@ none-told base ours theirs first second n m gone kept =
     ∙ ap₂ (λ a b. a ++ b) (nothing-given (conflict_at base ours theirs) first (range_with_len 0 n) gone) (nothing-given (conflict_at base ours theirs) second (range_with_len 0 m) kept)
 
 -- we left the common file: theirs is a merge
-pub ours-left : (base theirs : Reading) → IsMergeOf [] base base theirs (bytes_of theirs) []
+pub ours-left : (base theirs : Reading) → IsMergeOf [] base base theirs theirs []
 ours-left base theirs =
     let ub = units_of base in
     let ut = units_of theirs in
@@ -367,6 +386,7 @@ ours-left base theirs =
           (settled-both (is_settled [] ub ub ut) gone kept (length ub) (length ut) (λ k. goes (slice_get ub k)) (λ k less. stays (slice_get ut k) (space_at (spaced_of theirs) k) (there ut k less) (space-is_space theirs k))))
           (seldom-theirs ub ut (both_ranges gone (length ub) kept (length ut)) (left-labels ub ut ut gone kept (length ub) (λ k. refl) (λ k. refl)));
       bytes = left-bytes ub ut theirs gone kept (length ub) (λ k. refl) (λ k. refl);
+      items = left-bodies ub ut theirs gone kept (length ub) (λ k. refl) (λ k. refl);
       told = none-told ub ub ut gone kept (length ub) (length ut) (λ k. refl) (λ k. refl);
     }
   where
@@ -378,7 +398,7 @@ ours-left base theirs =
     stays t space some white = and_from _ _ (ap (λ x. x && true) some) white
 
 -- they left the common file: ours is a merge
-pub theirs-left : (base ours : Reading) → IsMergeOf [] base ours base (bytes_of ours) []
+pub theirs-left : (base ours : Reading) → IsMergeOf [] base ours base ours []
 theirs-left base ours =
     let ub = units_of base in
     let uo = units_of ours in
@@ -394,6 +414,7 @@ theirs-left base ours =
           (settled-both (is_settled [] ub uo ub) gone kept (length ub) (length uo) (λ k. goes (slice_get ub k)) (λ k less. stays (slice_get uo k) (space_at (spaced_of ours) k) (there uo k less) (space-is_space ours k))))
           (seldom-ours uo ub (both_ranges gone (length ub) kept (length uo)) (left-labels uo ub uo gone kept (length ub) (λ k. refl) (λ k. refl)));
       bytes = left-bytes uo ub ours gone kept (length ub) (λ k. refl) (λ k. refl);
+      items = left-bodies uo ub ours gone kept (length ub) (λ k. refl) (λ k. refl);
       told = none-told ub uo ub gone kept (length ub) (length uo) (λ k. refl) (λ k. refl);
     }
   where
@@ -405,7 +426,7 @@ theirs-left base ours =
     stays o space some white = and_from _ _ (and_from _ _ (none_shares o) (ap (λ x. x && true) some)) white
 
 -- both sides are the same: that file is a merge
-pub sides-same : (base side : Reading) → IsMergeOf [] base side side (bytes_of side) []
+pub sides-same : (base side : Reading) → IsMergeOf [] base side side side []
 sides-same base side =
     let ub = units_of base in
     let us = units_of side in
@@ -421,6 +442,7 @@ sides-same base side =
           (settled-both (is_settled [] ub us us) gone kept (length ub) (length us) (λ k. goes (slice_get ub k)) (λ k less. stays (slice_get us k) (space_at (spaced_of side) k) (there us k less) (space-is_space side k))))
           (seldom-ours us us (both_ranges gone (length ub) kept (length us)) (left-labels us us us gone kept (length ub) (λ k. refl) (λ k. refl)));
       bytes = left-bytes us us side gone kept (length ub) (λ k. refl) (λ k. refl);
+      items = left-bodies us us side gone kept (length ub) (λ k. refl) (λ k. refl);
       told = none-told ub us us gone kept (length ub) (length us) (λ k. refl) (λ k. refl);
     }
   where

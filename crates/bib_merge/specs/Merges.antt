@@ -1,7 +1,7 @@
 -- What the text of a merge is, and why there is none.
 use Rattle.std.specs.Prelude.{◌≡◌, ◌≢◌, true, List, [], map}
 use Rattle.bib_spec.specs.Text.{Text, folded}
-use Rattle.bib_spec.specs.Reading.{Reading}
+use Rattle.bib_spec.specs.Reading.{Reading, bytes_of}
 use Rattle.bib_spec.specs.Texts.{Opens, IsOpenable}
 use Rattle.bib_spec.specs.Records.{entries_of}
 use Rattle.bib_scan.specs.declared.fault.ReadFault.{ReadFault}
@@ -19,6 +19,7 @@ use Rattle.bib_uses.specs.Lost.{lost_uses}
 use Rattle.bib_uses.specs.declared.losing.LostUse.{LostUse}
 use Rattle.bib_places.specs.declared.place.File.{File}
 use Rattle.bib_places.specs.declared.place.File.TheVariants as file
+use Rattle.bib_merge.specs.Bodies.{bodies_of, merged_bodies}
 use Rattle.bib_merge.specs.declared.fault.MergeFault.{MergeFault}
 use Rattle.bib_merge.specs.declared.fault.MergeFault.TheVariants.{Base, Ours, Theirs, Memory, TextTooLong, FileTooLong, WouldMerge}
 
@@ -31,13 +32,14 @@ label_named named.Macro name = MacroLabel (folded name)
 abbrev pub label_given : GivenName → Label
 label_given given = label_named given.what given.name
 
--- the text is that of places that are a merge of the three files, in which the sides gave units these labels, and these are its
--- conflicts
-pub record IsMergeOf (given : List Label) (base ours theirs : Reading) (text : Text) (conflicts : List Conflict) : Type 0 where
+-- The merged file is that of places that are a merge of the three files, in which the sides gave units these labels: it has their bytes,
+-- and its items are those that the places have, in order, with the same bodies. These are its conflicts.
+pub record IsMergeOf (given : List Label) (base ours theirs merged : Reading) (conflicts : List Conflict) : Type 0 where
   pub places : List Place
   pub space : Text
   pub merge : is_merge given (units_of base) (units_of ours) (units_of theirs) places ≡ true
-  pub bytes : merged_bytes (units_of ours) (units_of theirs) space places ≡ text
+  pub bytes : merged_bytes (units_of ours) (units_of theirs) space places ≡ bytes_of merged
+  pub items : merged_bodies (units_of ours) (units_of theirs) places ≡ bodies_of merged
   pub told : conflicts_of (units_of base) (units_of ours) (units_of theirs) places ≡ conflicts
 
 -- The text, its conflicts, the keys of the entries that have lost their parents, and the uses of macros that have lost their meaning
@@ -51,7 +53,7 @@ pub record IsMergeOfThree (given : List Label) (base ours theirs text : Text) (c
   pub ours_opens : Opens ours ro
   pub theirs_opens : Opens theirs rt
   pub text_opens : Opens text rm
-  pub merge : IsMergeOf given rb ro rt text conflicts
+  pub merge : IsMergeOf given rb ro rt rm conflicts
   pub lose : lost ≡ lost_keys (entries_of ro) (entries_of rt) (entries_of rm)
   pub change : uses ≡ lost_uses ro rt rm
 

@@ -4,6 +4,7 @@
 #![tactic(auto)]
 
 mod fault;
+mod meeting;
 mod merging;
 mod mixing;
 mod ordering;

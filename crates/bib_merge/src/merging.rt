@@ -13,9 +13,11 @@ ghost use Rattle.merge_spec.specs.Parents.{lost_keys};
 ghost use Rattle.bib_uses.specs.Lost.{lost_uses};
 ghost use Rattle.bib_places.specs.OwnedLabels.{owned_seen};
 ghost use Rattle.bib_places.specs.ConflictsSeen.{conflict_seen};
+ghost use Rattle.bib_merge.specs.Bodies.{bodies_of, merged_bodies};
 ghost use Rattle.bib_merge.specs.Merges.{label_given, IsMergeOf, IsMergeOfThree, IsMergeOfFiles, LeavesTheOther, fault_in, IsOpeningFault, IsMergedFault, IsThreeFault, IsMergeFault};
 
 use crate::fault::MergeFault;
+use crate::meeting::has_items;
 use crate::mixing::Found as MixFound;
 use crate::ordering::{is_marked, order};
 use crate::outcomes::{Becomes, outcome_of};
@@ -23,7 +25,6 @@ use crate::pairing::{In, Row, Rows};
 use crate::spacing::{Units, chosen, space_after, unit};
 use crate::told::Told;
 use crate::unchanged::unchanged;
-use bib_fields::add_mixed;
 use bib_parents::lost_keys;
 use bib_places::{
     Conflict, File, Mix, Outcome, OwnedLabel, Place, Side, conflicts_of, is_merge, merged_text,
@@ -31,7 +32,7 @@ use bib_places::{
 use bib_renames::{Followed, GivenName, KeyConflict, Named, follow};
 use bib_scan::{ReadFault, Text, copied};
 use bib_store::{Database, Paged};
-use bib_units::{FileUnits, UnitView, units_of};
+use bib_units::{FileUnits, units_of};
 use bib_uses::{LostUse, lost_uses};
 use std::alloc::{AllocError, Global};
 
@@ -280,105 +281,6 @@ fn found_places<'a>(
     places_of(alloc, units, &found, mixes.as_slice())
 }
 
-/// The body of the item that a unit is, if it is one.
-fn body_of<'a>(db: &'a Database<Paged>, unit: Option<UnitView<'_>>) -> Option<&'a [u8]> {
-    let n = unit?.item?;
-    if n < db.item_count() {
-        return Some(db.item(n).body());
-    }
-    None
-}
-
-/// The bytes of a merged entry.
-fn mixed_body(
-    alloc: Global,
-    ours: &Side<'_, Paged>,
-    o: Option<UnitView<'_>>,
-    theirs: &Side<'_, Paged>,
-    t: Option<UnitView<'_>>,
-    mix: Mix<'_>,
-) -> Result<Vec<u8>, AllocError> {
-    let mut body = Vec::new(alloc);
-    if let (Some(o), Some(t)) = (o, t) {
-        if let (Some(n), Some(m)) = (o.item, t.item) {
-            add_mixed(alloc, &mut body, ours.db, n, theirs.db, m, mix)?;
-        }
-    }
-    Ok(body)
-}
-
-/// Items of a file, of which the first were met.
-#[derive(Drop)]
-struct Met<'a> {
-    db: &'a Database<Paged>,
-    count: usize,
-    // whether each had the body that it was to have
-    as_wanted: bool,
-}
-
-impl<'a> Met<'a> {
-    /// Meets the next item, which is to have this body; nothing if there is no body.
-    fn meet(&mut self, body: Option<&[u8]>) {
-        if let Some(body) = body {
-            let n = self.count;
-            self.as_wanted = self.as_wanted
-                && n < self.db.item_count()
-                && self.db.item(n).body() == body;
-            self.count = n.saturating_add(1);
-        }
-    }
-
-    /// Whether all items were met, and each had the body that it was to have.
-    fn is_all(&self) -> bool {
-        self.as_wanted && self.count == self.db.item_count()
-    }
-}
-
-/// Meets the items of a place, in their order.
-fn meet_place(
-    alloc: Global,
-    met: &mut Met<'_>,
-    ours: &Side<'_, Paged>,
-    theirs: &Side<'_, Paged>,
-    place: &Place<'_>,
-) -> Result<(), AllocError> {
-    let o = unit(ours.units, place.ours);
-    let t = unit(theirs.units, place.theirs);
-    match place.outcome {
-        Outcome::Ours => met.meet(body_of(ours.db, o)),
-        Outcome::Theirs => met.meet(body_of(theirs.db, t)),
-        Outcome::Mixed(mix) => {
-            let body = mixed_body(alloc, ours, o, theirs, t, mix)?;
-            met.meet(Some(body.as_slice()));
-        }
-        Outcome::Gone => {}
-        Outcome::Both => {
-            met.meet(body_of(ours.db, o));
-            met.meet(body_of(theirs.db, t));
-        }
-    }
-    Ok(())
-}
-
-/// Whether the items of a file are those that are left in a merge, with the same bodies.
-fn has_items(
-    alloc: Global,
-    db: &Database<Paged>,
-    ours: &Side<'_, Paged>,
-    theirs: &Side<'_, Paged>,
-    places: &[Place<'_>],
-) -> Result<bool, AllocError> {
-    let mut met = Met {
-        db,
-        count: 0,
-        as_wanted: true,
-    };
-    'places: for k in 0..places.len() {
-        meet_place(alloc, &mut met, ours, theirs, &places[k])?;
-    }
-    Ok(met.is_all())
-}
-
 /// Why the merged text is not opened.
 fn merged_fault(fault: ReadFault) -> MergeFault
     ensures { IsMergedFault result }
@@ -392,13 +294,14 @@ fn merged_fault(fault: ReadFault) -> MergeFault
 }
 
 /// The merge of our file and theirs, which come from a common one: their units, each as one of the sides has it, or both versions
-/// between markers where each side has changed it; the conflicts, which are the units with markers; the entries that have lost their
-/// parent; and the uses of macros that have lost their meaning. The units keep our order, with theirs after the unit that comes before
-/// it in their file. If one side changed no byte, the file of the other side is the merge, and so is the file of both if they are the
-/// same; only memory can run out then. Else each file first gets the names that the sides gave to entries and macros, as `bib_renames` says. It opens
-/// the three files and the merged one, and takes time and memory in their lengths; with such names it also makes the edits, and opens
-/// the three files that they make. It is refused at the first file that cannot be opened; with 8 or 9 if the merged text would have
-/// too long a raw text or be too long itself; with 40 if it is no file or has other items; and with 10. (dialect)
+/// between markers where each side has changed it; the conflicts, which are the units with markers; the entries that have lost
+/// their parent; and the uses of macros that have lost their meaning. The units keep our order, with theirs after the unit that
+/// comes before it in their file. If one side changed no byte, the file of the other side is the merge, and so is the file of both
+/// if they are the same; only memory can run out then. Else each file first gets the names that the sides gave to entries and
+/// macros, as `bib_renames` says. It opens the three files and the merged one, and takes time and memory in their lengths; with
+/// such names it also makes the edits, and opens the three files that they make. It is refused at the first file that cannot be
+/// opened; with 8 or 9 if the merged text would have too long a raw text or be too long itself; with 40 if it is no file or has
+/// other items; and with 10. (dialect)
 pub fn merge(alloc: Global, base: &[u8], ours: &[u8], theirs: &[u8]) -> Result<Merged, MergeFault>
     ensures merged { IfOk result (λ merged. IsMergeOfFiles base.now ours.now theirs.now merged.text merged.keys.items (map conflict_seen merged.conflicts.items) merged.lost.items merged.uses.items) }
     ensures left { IfOk result (λ merged. LeavesTheOther base.now ours.now theirs.now merged.text (map conflict_seen merged.conflicts.items)) }
@@ -679,8 +582,8 @@ fn merge_sides(
     t: &Database<Paged>,
     of_theirs: &FileUnits<'_>,
 ) -> Result<Told, MergeFault>
-    ensures merged { IfOk result (λ told. (rb ro rt : Reading) → IsSide rb b.now of_base.now.units.items → IsSide ro o.now of_ours.now.units.items → IsSide rt t.now of_theirs.now.units.items
-        → IsMergeOf (map owned_seen given.now) rb ro rt told.text (map conflict_seen told.conflicts.items)) }
+    ensures merged { IfOk result (λ told. OfReading told.text (λ rm. (rb ro rt : Reading) → IsSide rb b.now of_base.now.units.items → IsSide ro o.now of_ours.now.units.items → IsSide rt t.now of_theirs.now.units.items
+        → IsMergeOf (map owned_seen given.now) rb ro rt rm (map conflict_seen told.conflicts.items))) }
     ensures lost { IfOk result (λ told. OfReading o.now (λ ro. OfReading t.now (λ rt. OfReading told.text (λ rm. told.lost.items ≡ lost_keys (entries_of ro) (entries_of rt) (entries_of rm))))) }
     ensures uses { IfOk result (λ told. OfReading o.now (λ ro. OfReading t.now (λ rt. OfReading told.text (λ rm. told.uses.items ≡ lost_uses ro rt rm)))) }
     ensures opens { IfOk result (λ told. IsOpenable told.text) }
@@ -745,6 +648,8 @@ fn tell(
         → map conflict_seen told.conflicts.items ≡ conflicts_of (units_of rb) (units_of ro) (units_of rt) (map (place_seen (units_of ro) (units_of rt)) places.now)) }
     ensures lost { IfOk result (λ told. OfReading ours.now.db.now (λ ro. OfReading theirs.now.db.now (λ rt. OfReading text (λ rm. told.lost.items ≡ lost_keys (entries_of ro) (entries_of rt) (entries_of rm))))) }
     ensures uses { IfOk result (λ told. OfReading ours.now.db.now (λ ro. OfReading theirs.now.db.now (λ rt. OfReading text (λ rm. told.uses.items ≡ lost_uses ro rt rm)))) }
+    ensures items { OnOk result (OfReading text (λ rm. (ro rt : Reading) → IsSide ro ours.now.db.now ours.now.units.now → IsSide rt theirs.now.db.now theirs.now.units.now
+        → merged_bodies (units_of ro) (units_of rt) (map (place_seen (units_of ro) (units_of rt)) places.now) ≡ bodies_of rm)) }
     ensures opens { OnOk result (IsOpenable text) }
     ensures fault { IfErr result IsMergedFault }
 {
@@ -784,6 +689,8 @@ fn losses(
 ) -> Result<Lost, MergeFault>
     ensures keys { IfOk result (λ lost. OfReading ours.now.db.now (λ ro. OfReading theirs.now.db.now (λ rt. OfReading text.now (λ rm. lost.keys.items ≡ lost_keys (entries_of ro) (entries_of rt) (entries_of rm))))) }
     ensures uses { IfOk result (λ lost. OfReading ours.now.db.now (λ ro. OfReading theirs.now.db.now (λ rt. OfReading text.now (λ rm. lost.uses.items ≡ lost_uses ro rt rm)))) }
+    ensures items { OnOk result (OfReading text.now (λ rm. (ro rt : Reading) → IsSide ro ours.now.db.now ours.now.units.now → IsSide rt theirs.now.db.now theirs.now.units.now
+        → merged_bodies (units_of ro) (units_of rt) (map (place_seen (units_of ro) (units_of rt)) places.now) ≡ bodies_of rm)) }
     ensures opens { OnOk result (IsOpenable text.now) }
     ensures fault { IfErr result IsMergedFault }
 {
@@ -802,6 +709,8 @@ fn losses_in(
 ) -> Result<Lost, MergeFault>
     ensures keys { IfOk result (λ lost. OfReading ours.now.db.now (λ ro. OfReading theirs.now.db.now (λ rt. OfReading merged.now (λ rm. lost.keys.items ≡ lost_keys (entries_of ro) (entries_of rt) (entries_of rm))))) }
     ensures uses { IfOk result (λ lost. OfReading ours.now.db.now (λ ro. OfReading theirs.now.db.now (λ rt. OfReading merged.now (λ rm. lost.uses.items ≡ lost_uses ro rt rm)))) }
+    ensures items { OnOk result (OfReading merged.now (λ rm. (ro rt : Reading) → IsSide ro ours.now.db.now ours.now.units.now → IsSide rt theirs.now.db.now theirs.now.units.now
+        → merged_bodies (units_of ro) (units_of rt) (map (place_seen (units_of ro) (units_of rt)) places.now) ≡ bodies_of rm)) }
     ensures fault { IfErr result IsMergedFault }
 {
     if !has_items(alloc, merged, ours, theirs, places)? {

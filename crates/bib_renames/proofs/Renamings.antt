@@ -8,7 +8,7 @@ use Rattle.bib_spec.specs.Text.{Text}
 use Rattle.bib_spec.specs.Reading.{Reading, Reads}
 use Rattle.bib_store.specs.Readings.{OfReading}
 use Rattle.bib_data.specs.declared.edit.Edit.{Edit}
-use Rattle.bib_data.specs.declared.edit.Edit.TheVariants.{AddEntry, AddMany, DropField, InlineMacro, IntroduceMacro, MoveEntry, RegenerateKeys, RemoveEntry, RenameField, RenameKey, RenameMacro, SetField, SetType, UndefineMacro}
+use Rattle.bib_data.specs.declared.edit.Edit.TheVariants.{AddEntry, AddMany, DropField, InlineMacro, IntroduceMacro, MoveEntry, RegenerateKeys, RemoveEntry, RenameField, RenameKey, RenameMacro, SetField, SetType, UndefineMacro, DefineMacro, SetMacro}
 use Rattle.bib_data.specs.declared.request.Request.{Request}
 use Rattle.bib_data.specs.declared.request.Request.TheVariants as request
 use Rattle.bib_journal.specs.OpenSteps.{SessionState, idle}
@@ -88,6 +88,8 @@ renaming (request.Edit (MoveEntry key position)) is = absurd (false≢true is)
 renaming (request.Edit (SetType key kind_name)) is = absurd (false≢true is)
 renaming (request.Edit (UndefineMacro name)) is = absurd (false≢true is)
 renaming (request.Edit (RenameField from to key)) is = absurd (false≢true is)
+renaming (request.Edit (DefineMacro name value)) is = absurd (false≢true is)
+renaming (request.Edit (SetMacro name value)) is = absurd (false≢true is)
 renaming (request.Place position edit) is = absurd (false≢true is)
 renaming (request.Insert position text) is = absurd (false≢true is)
 renaming (request.Begin label) is = absurd (false≢true is)

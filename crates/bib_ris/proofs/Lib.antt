@@ -5,3 +5,4 @@ pub mod RisFields
 pub mod GivenKeys
 pub mod KeyedRecords
 pub mod DraftSteps
+pub mod SkippedImports

@@ -1,23 +1,25 @@
 -- The numbers and places of faults.
-use Rattle.std.specs.Prelude.{ℕ, Option, None}
+use Rattle.std.specs.Prelude.{ℕ, Option, Some, None}
 use Rattle.ris_text.specs.Faults as text
 use Rattle.ris_text.specs.declared.fault.RisFault.{RisFault}
 use Rattle.ris_text.specs.declared.fault.RisFault.TheVariants as text_fault
 use Rattle.ris_format.specs.declared.fault.MappingFault.{MappingFault}
 use Rattle.ris_format.specs.declared.fault.MappingFault.TheVariants as mapping_fault
 use Rattle.bib_ris.specs.declared.fault.ImportFault.{ImportFault}
-use Rattle.bib_ris.specs.declared.fault.ImportFault.TheVariants.{Unread, UnbalancedText, Memory}
+use Rattle.bib_ris.specs.declared.fault.ImportFault.TheVariants.{Unread, UnbalancedText, SkippedLine, Memory}
 
 -- the number that users see of a fault
 abbrev pub fault_number : ImportFault → ℕ
 fault_number (Unread fault) = text.fault_number fault
 fault_number UnbalancedText = 64
+fault_number (SkippedLine place) = 65
 fault_number Memory = 10
 
--- the place in a text that is not read; no other fault has a place
+-- the place in a text that is not read, or of which a line is skipped; no other fault has a place
 abbrev pub fault_place : ImportFault → Option ℕ
 fault_place (Unread fault) = text.fault_place fault
 fault_place UnbalancedText = None
+fault_place (SkippedLine place) = Some place
 fault_place Memory = None
 
 -- a fault of reading, as a fault of an import

@@ -3,3 +3,4 @@ pub mod Faults
 pub mod Import
 pub mod Drafts
 pub mod Dropped
+pub mod Plain

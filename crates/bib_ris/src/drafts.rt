@@ -104,7 +104,7 @@ impl Drafts {
     /// reported even if a record before it has a text that is not balanced.
     pub fn of(alloc: Global, text: &[u8], latex: bool) -> Result<(Drafts, u64), ImportFault>
         ensures drafts { IfOk result (λ r. AreSaidBy latex text.now r.0 r.1) }
-        ensures refused { IfErr result (λ fault. RefusesImport latex fault text.now) }
+        ensures refused { IfErr result (λ fault. RefusesImport latex false fault text.now) }
     {
         let mut drafts = Drafts::none(alloc);
         let mut rest = Unread::of(text);

@@ -17,6 +17,9 @@ pub enum ImportFault {
     /// The braces of a record's text do not balance, so no braced value says it.
     #[error("64 UnbalancedText")]
     UnbalancedText,
+    /// A line of the text is skipped, the first at this place.
+    #[error("65 SkippedLine at {0}")]
+    SkippedLine(usize),
     /// A request for memory was refused.
     #[error("10 Memory")]
     Memory,
@@ -30,17 +33,19 @@ impl ImportFault {
         match self {
             ImportFault::Unread(fault) => fault.number(),
             ImportFault::UnbalancedText => 64,
+            ImportFault::SkippedLine(_) => 65,
             ImportFault::Memory => 10,
         }
     }
 
     /// If the text is not read: the first byte of the line that is wrong, or the text's length if the text ends too
-    /// early.
+    /// early. If a line is skipped: its first byte.
     pub fn place(&self) -> Option<usize>
         ensures { result ≡ fault_place self.now }
     {
         match self {
             ImportFault::Unread(fault) => fault.place(),
+            ImportFault::SkippedLine(place) => Some(*place),
             ImportFault::UnbalancedText | ImportFault::Memory => None,
         }
     }

@@ -1,6 +1,6 @@
 //! Entries that a RIS text adds to a file.
 
-ghost use Rattle.std.specs.Prelude.{◌≡◌, ◌≤◌, List, length, IfOk, IfErr};
+ghost use Rattle.std.specs.Prelude.{◌≡◌, ◌≤◌, List, ◌∷◌, length, IfOk, IfErr};
 ghost use Rattle.std.specs.List.{AllByRecursion};
 ghost use Rattle.bib_spec.specs.Records.{Record as EntryRecord};
 ghost use Rattle.bib_spec.specs.MadeKeys.{base_limit, made_keys};
@@ -8,7 +8,9 @@ ghost use Rattle.bib_keys.specs.TakenKeys.{taken_in};
 ghost use Rattle.bib_store.specs.Readings.{OfReading};
 ghost use Rattle.bib_ris.specs.Drafts.{AreDraftsOf, usable_keys};
 ghost use Rattle.bib_ris.specs.Import.{imported, AreAdditions, RefusesImport};
-ghost use Rattle.bib_ris.specs.declared.fault.ImportFault.TheVariants.{Memory};
+ghost use Rattle.ris_text.specs.Lines.{Line};
+ghost use Rattle.ris_text.specs.Skipped.{AreSkipped};
+ghost use Rattle.bib_ris.specs.declared.fault.ImportFault.TheVariants.{SkippedLine, Memory};
 
 use crate::drafts::{Drafts, usable_keys, with_keys};
 use crate::fault::ImportFault;
@@ -16,6 +18,7 @@ use bib_data::NewEntry;
 use bib_edit::free_keys;
 use bib_scan::{Seq, Text};
 use bib_store::{Database, ItemList};
+use ris_text::SkippedLines;
 use std::alloc::Global;
 
 /// What a RIS text adds to a file: its records as entries, and how many of its lines were skipped.
@@ -66,23 +69,39 @@ fn imported<L: ItemList>(
     Ok(with_keys(drafts.entries, keys))
 }
 
+/// The fault of a text of which a line is skipped: the first such line.
+fn first_skipped(text: &[u8]) -> ImportFault
+    requires { (first : Line) × (others : List Line) × AreSkipped text.now (first ∷ others) }
+    ensures { (first : Line) → (others : List Line) → AreSkipped text.now (first ∷ others) → result ≡ SkippedLine first.place }
+{
+    match SkippedLines::of(text).next() {
+        Some((line, _others)) => ImportFault::SkippedLine(line.place),
+        None => unreachable!(),
+    }
+}
+
 /// What a RIS text adds to an open file: its records as they are, or with `latex` with texts that LaTeX prints as they are
 /// in RIS (`from_ris_as`). A record whose ID can be a key keeps it. Each other record gets a free key
 /// from its made base, which is no ID of the text and no key that was made before. It takes time in the lengths of the
 /// text and of the file's keys, and memory for the entries; RIS records are read one at a time.
 ///
 /// A text that is not read is refused as 61 to 63, with the place. Another text is refused as 64 if a record has a
-/// field whose braces do not balance. All other texts are refused only for want of memory.
+/// field whose braces do not balance; or else, if `strict`, as 65 if a line of it is skipped, with the place of the
+/// first. All other texts are refused only for want of memory.
 pub fn import<L: ItemList>(
     alloc: Global,
     db: &Database<L>,
     text: &[u8],
     latex: bool,
+    strict: bool,
 ) -> Result<Additions, ImportFault>
-    ensures additions { IfOk result (AreAdditions latex db.now text.now) }
-    ensures refused { IfErr result (λ fault. RefusesImport latex fault text.now) }
+    ensures additions { IfOk result (AreAdditions latex strict db.now text.now) }
+    ensures refused { IfErr result (λ fault. RefusesImport latex strict fault text.now) }
 {
     let (drafts, skipped) = Drafts::of(alloc, text, latex)?;
+    if strict && skipped > 0 {
+        return Err(first_skipped(text));
+    }
     let entries = imported(alloc, db, drafts)?;
     Ok(Additions { entries, skipped })
 }

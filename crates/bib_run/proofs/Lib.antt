@@ -10,3 +10,4 @@ pub mod OpenLemmas
 pub mod LogLemmas
 pub mod StoredRuns
 pub mod OneAnswer
+pub mod SkippedLines

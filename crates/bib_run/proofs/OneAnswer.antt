@@ -1,28 +1,30 @@
 -- What each command answers is determined by the bytes of its sources.
-use Rattle.bib_run.proofs.Words.{◌≡◌, ◌≢◌, ◌≤◌, ◌==◌, ℕ, Bool, true, false, List, [], length, bytes_eq, codes, Option, Some, None, option_map, replicate, inl, inr, refl, sym, ◌∙◌, ap, subst, arith, list_all, false≢true, none-some, same_Some, file_limit, Text, Reading, IsOpenable, IsReadFault}
+use Rattle.bib_run.proofs.Words.{◌≡◌, ◌≢◌, ◌≤◌, ℕ, Bool, true, false, List, [], length, bytes_eq, codes, Option, Some, None, option_map, replicate, inl, inr, refl, sym, ◌∙◌, ap, subst, arith, list_all, false≢true, none-some, same_Some, file_limit, Text, Reading, IsOpenable, IsReadFault}
 use Rattle.bib_run.proofs.Words.{no_reading, IsOpenFault, KeptSteps, AddMany, Request, Additions, AreAdditions, SessionFault, Saved, Saves, SessionState, idle, Opens, IsOpened, HasTurned, one-opening, opened_is_sound, open_fault, Command, Answer, refusal_line, answer_of, IsCatAnswer, AnswersFile}
-use Rattle.bib_run.proofs.Words.{said_of, position_of, IsLintAnswer, error_line, IsUnopened, IsUnopenedAnswer, IsUnfit, OpensWith, judged_journal, bad_journal_line, fault_line, outcome_after, AnswersSession, AnswersInput, HasEdited, HasEditedBy, HasEditedByWords, IsEditAnswer, IsWordsAnswer}
-use Rattle.bib_run.proofs.Words.{edited_answer, stop_line, fault_message, HasAdded, HasImported, IsImportAnswer, IsTurnAnswer, IsLogAnswer, IsForgetAnswer, first_word, key_words, shown}
-use Rattle.std.proofs.Common.{ap₂, ◌<◌, if◌then◌else◌, IsSomeAnd}
+use Rattle.bib_run.proofs.Words.{said_of, position_of, IsLintAnswer, error_line, IsUnopened, IsUnopenedAnswer, IsUnfit, OpensWith, judged_journal, bad_journal_line, fault_line, outcome_after, AnswersSession, AnswersInput, HasEdited, HasEditedBy, HasEditedByWords}
+use Rattle.bib_run.proofs.Words.{edited_answer, stop_line, fault_message, HasAdded, HasImported, IsTurnAnswer, IsLogAnswer, IsForgetAnswer, first_word, key_words, shown}
+use Rattle.std.proofs.Common.{ap₂, ◌∷◌, ◌<◌, if◌then◌else◌, IsSomeAnd}
 use Rattle.bib_spec.proofs.Names.{eq-true}
 use Rattle.bib_spec.specs.Bytes.{name_limit}
-use Rattle.bib_spec.specs.Reading.{Reads, HasReading, HasReadingWithin}
-use Rattle.bib_spec.specs.Texts.{too_long_at}
-use Rattle.bib_spec.specs.Fault.{IsFaultAt, ReadingFault, fault_number, too_long, no_memory}
+use Rattle.bib_spec.specs.Reading.{Reads, HasReading, bytes_of}
+use Rattle.bib_spec.specs.Texts.{months, macros_at}
+use Rattle.bib_spec.specs.Fault.{ReadingFault, fault_number, too_long, no_memory}
 use Rattle.bib_spec.specs.Fault as reading
 use Rattle.bib_scan.proofs.OneReading.{one_reading}
-use Rattle.bib_scan.proofs.PlaceLaws.{one_place, one_fault}
+use Rattle.bib_scan.proofs.PlaceLaws.{one_fault}
 use Rattle.bib_data.specs.declared.edit.NewEntry.{NewEntry}
 use Rattle.bib_data.specs.declared.request.Request.TheVariants as request
 use Rattle.bib_names.specs.Template.{Pattern}
 use Rattle.bib_names.proofs.TemplateLaws as templates
 use Rattle.journal_format.proofs.JournalLaws as journals
 use Rattle.ris_text.specs.declared.records.RisFile.{RisFile}
-use Rattle.ris_text.specs.Lines.{lines_of}
+use Rattle.ris_text.specs.Lines.{Line as RisTextLine, lines_of}
+use Rattle.ris_text.specs.Reading.{Reads as RisReads}
 use Rattle.ris_text.proofs.MeaningLaws as meanings
+use Rattle.ris_text.proofs.SkipLemmas as skipping
 use Rattle.bib_ris.specs.declared.fault.ImportFault.{ImportFault}
-use Rattle.bib_ris.specs.declared.fault.ImportFault.TheVariants.{Unread, UnbalancedText, Memory}
-use Rattle.bib_ris.specs.Import.{RefusesImport, records_of, imported}
+use Rattle.bib_ris.specs.declared.fault.ImportFault.TheVariants.{Unread, UnbalancedText, SkippedLine, Memory}
+use Rattle.bib_ris.specs.Import.{RefusesImport, HasUnbalanced, records_of, imported}
 use Rattle.ris_format.specs.Entry.{are_balanced}
 use Rattle.bib_journal.specs.OneResult.{IsGood}
 use Rattle.bib_journal.specs.Session.{started}
@@ -30,8 +32,12 @@ use Rattle.bib_journal.proofs.Moves.{none_open}
 use Rattle.bib_journal.proofs.OpenFaults.{SamePlace, not_read, one_read_fault, one_open_fault}
 use Rattle.bib_journal.proofs.SeveralRuns.{does_keeps_good}
 use Rattle.bib_data.specs.declared.position.Position.{Position}
-use Rattle.bib_run.specs.InsertAnswer.{IsGain, HasPutIn, HasInserted, inserted_answer, uninserted_line}
-use Rattle.bib_journal.proofs.OneResult.{one-result, one_saved, one_does, one_refusal, not_both}
+use Rattle.bib_run.specs.InsertAnswer.{IsGain, HasPutIn, AreNews, HasPutNews, HasInserted, defined_there, inserted_answer, uninserted_line}
+use Rattle.bib_paste.specs.News.{news_of}
+use Rattle.bib_edit.specs.declared.fault.EditFault.TheVariants.{NameInUse}
+use Rattle.bib_journal.specs.Session.{RefusesInsertion, RefusesPlan}
+use Rattle.bib_journal.specs.declared.fault.SessionFault.TheVariants.{Refused}
+use Rattle.bib_journal.proofs.OneResult.{one-result, one_saved, one_does, one_refusal, one_place, not_both}
 use Rattle.aux_text.specs.declared.placing.AuxKeys.{AuxKeys}
 use Rattle.bib_answers.specs.Names.{Spells, IsNamesAnswer, names_answer}
 use Rattle.bib_answers.specs.Lint.{lint_answer, fault_lines}
@@ -39,7 +45,7 @@ use Rattle.bib_faults.specs.GoingOn.{Fault}
 use Rattle.bib_faults.proofs.GoingOnLaws.{one-list-of-faults}
 use Rattle.bib_run.specs.EditAnswer.{whole}
 use Rattle.bib_run.specs.Shown.{kept_with}
-use Rattle.bib_run.specs.ImportAnswer.{import_fault_line, added_answer}
+use Rattle.bib_run.specs.ImportAnswer.{import_fault_line, import_told, added_answer}
 use Rattle.bib_run.specs.Turns.{turned_line}
 use Rattle.bib_run.specs.Log.{log_text, journal_left}
 use Rattle.bib_words.specs.declared.verbs.Question.TheVariants.{Check, Show, Entry, Cite, Labels, Json, NewKeys, Ris, Extract}
@@ -234,47 +240,73 @@ one_forget file a b (IsForgetAnswer.unforgotten u) (IsForgetAnswer.unforgotten v
 
 -- ---- what an import answers
 
-one_additions : (latex : Bool) (file text : Text) (a b : Additions) → IsOpenable file → AreAdditions latex file text a → AreAdditions latex file text b → a ≡ b
-one_additions latex file text a b opens x y =
+one_additions : (latex strict : Bool) (file text : Text) (a b : Additions) → IsOpenable file → AreAdditions latex strict file text a → AreAdditions latex strict file text b → a ≡ b
+one_additions latex strict file text a b opens x y =
     let said : x.said ≡ y.said = meanings.says_one (lines_of text) x.said y.said x.reads y.reads in
     ap (λ (es : List NewEntry). record { entries = es; skipped = a.skipped })
     (x.entries opens.0 opens.1.reads ∙ ap (λ (s : RisFile). imported opens.0 (records_of latex s.records)) said ∙ sym (y.entries opens.0 opens.1.reads))
     ∙ ap (λ (n : ℕ). record { entries = b.entries; skipped = n }) (x.skipped ∙ ap (λ (s : RisFile). s.skipped) said ∙ sym y.skipped)
 
+-- a text that says records with balanced texts has no unbalanced text
+not_unbalanced : (latex : Bool) (text : Text) (said : RisFile) → RisReads text said → list_all are_balanced (records_of latex said.records) ≡ true → HasUnbalanced latex text → ⊥
+not_unbalanced latex text said reads balanced why =
+    false≢true (sym why.unbalanced ∙ ap (λ (s : RisFile). list_all are_balanced (records_of latex s.records)) (meanings.says_one (lines_of text) why.said said why.reads reads) ∙ balanced)
+
 -- a text that adds entries gives some
-not_refused : (latex : Bool) (file text : Text) (a : Additions) (fault : ImportFault) → fault ≢ Memory → AreAdditions latex file text a → RefusesImport latex fault text → ⊥
-not_refused latex file text a Memory told adds why = told refl
-not_refused latex file text a (Unread fault) told adds why = meanings.wrong_says_nothing (length text) (lines_of text) adds.said fault adds.reads why.1
-not_refused latex file text a UnbalancedText told adds why =
-    false≢true (sym why.unbalanced ∙ ap (λ (s : RisFile). list_all are_balanced (records_of latex s.records)) (meanings.says_one (lines_of text) why.said adds.said why.reads adds.reads) ∙ adds.balanced)
+not_refused : (latex strict : Bool) (file text : Text) (a : Additions) (fault : ImportFault) → fault ≢ Memory → AreAdditions latex strict file text a → RefusesImport latex strict fault text → ⊥
+not_refused latex strict file text a Memory told adds why = told refl
+not_refused latex strict file text a (Unread fault) told adds why = meanings.wrong_says_nothing (length text) (lines_of text) adds.said fault adds.reads why.1
+not_refused latex strict file text a UnbalancedText told adds why = not_unbalanced latex text adds.said adds.reads adds.balanced why
+not_refused latex strict file text a (SkippedLine place) told adds why =
+    let count : length (why.1.first ∷ why.1.others) ≡ adds.said.skipped = skipping.skipped_are_counted text adds.said (why.1.first ∷ why.1.others) adds.reads why.1.skipped in
+    absurd (omega (arith, count, adds.skipped, adds.whole why.0))
 
-one_import_fault : (latex : Bool) (text : Text) (f g : ImportFault) → f ≢ Memory → g ≢ Memory → RefusesImport latex f text → RefusesImport latex g text → f ≡ g
-one_import_fault latex text (Unread f) (Unread g) told told' why why' = ap Unread (meanings.one_fault (length text) (lines_of text) f g why.1 why'.1)
-one_import_fault latex text (Unread f) UnbalancedText told told' why why' = absurd (meanings.wrong_says_nothing (length text) (lines_of text) why'.said f why'.reads why.1)
-one_import_fault latex text (Unread f) Memory told told' why why' = absurd (told' refl)
-one_import_fault latex text UnbalancedText (Unread g) told told' why why' = absurd (meanings.wrong_says_nothing (length text) (lines_of text) why.said g why.reads why'.1)
-one_import_fault latex text UnbalancedText UnbalancedText told told' why why' = refl
-one_import_fault latex text UnbalancedText Memory told told' why why' = absurd (told' refl)
-one_import_fault latex text Memory g told told' why why' = absurd (told refl)
+-- the place of the first of these lines
+abbrev first_place : List RisTextLine → ℕ
+first_place [] = 0
+first_place (line ∷ lines) = line.place
 
-one_added : (a : Additions) (s : SessionState) → IsGood s → One (HasAdded a s)
-one_added a s good x y (HasAdded.added closed saved makes saves is) (HasAdded.added closed' saved' makes' saves' is') =
+one_import_fault : (latex strict : Bool) (text : Text) (f g : ImportFault) → f ≢ Memory → g ≢ Memory → RefusesImport latex strict f text → RefusesImport latex strict g text → f ≡ g
+one_import_fault latex strict text (Unread f) (Unread g) told told' why why' = ap Unread (meanings.one_fault (length text) (lines_of text) f g why.1 why'.1)
+one_import_fault latex strict text (Unread f) UnbalancedText told told' why why' = absurd (meanings.wrong_says_nothing (length text) (lines_of text) why'.said f why'.reads why.1)
+one_import_fault latex strict text (Unread f) (SkippedLine q) told told' why why' = absurd (meanings.wrong_says_nothing (length text) (lines_of text) why'.1.said f why'.1.reads why.1)
+one_import_fault latex strict text (Unread f) Memory told told' why why' = absurd (told' refl)
+one_import_fault latex strict text UnbalancedText (Unread g) told told' why why' = absurd (meanings.wrong_says_nothing (length text) (lines_of text) why.said g why.reads why'.1)
+one_import_fault latex strict text UnbalancedText UnbalancedText told told' why why' = refl
+one_import_fault latex strict text UnbalancedText (SkippedLine q) told told' why why' = absurd (not_unbalanced latex text why'.1.said why'.1.reads why'.1.balanced why)
+one_import_fault latex strict text UnbalancedText Memory told told' why why' = absurd (told' refl)
+one_import_fault latex strict text (SkippedLine p) (Unread g) told told' why why' = absurd (meanings.wrong_says_nothing (length text) (lines_of text) why.1.said g why.1.reads why'.1)
+one_import_fault latex strict text (SkippedLine p) UnbalancedText told told' why why' = absurd (not_unbalanced latex text why.1.said why.1.reads why.1.balanced why')
+one_import_fault latex strict text (SkippedLine p) (SkippedLine q) told told' why why' =
+    ap SkippedLine (sym why.1.begins ∙ ap first_place (skipping.skips_one text (why.1.first ∷ why.1.others) (why'.1.first ∷ why'.1.others) why.1.skipped why'.1.skipped) ∙ why'.1.begins)
+one_import_fault latex strict text (SkippedLine p) Memory told told' why why' = absurd (told' refl)
+one_import_fault latex strict text Memory g told told' why why' = absurd (told refl)
+
+one_added : (a : Additions) (told : Text) (s : SessionState) → IsGood s → One (HasAdded a told s)
+one_added a told s good x y (HasAdded.added closed saved makes saves is) (HasAdded.added closed' saved' makes' saves' is') =
     let same : closed ≡ closed' = one_does (request.Edit (AddMany a.entries)) s closed closed' good.0.present makes makes' in
-    is ∙ ap (added_answer (length a.entries) a.skipped) (saved_same closed closed' saved saved' same saves saves') ∙ sym is'
-one_added a s good x y (HasAdded.added closed saved makes saves is) (HasAdded.refused fault told refuses is') =
-    absurd (not_both (request.Edit (AddMany a.entries)) fault s closed good.0.present told refuses makes)
-one_added a s good x y (HasAdded.refused fault told refuses is) (HasAdded.added closed saved makes saves is') =
-    absurd (not_both (request.Edit (AddMany a.entries)) fault s closed good.0.present told refuses makes)
-one_added a s good x y (HasAdded.refused fault told refuses is) (HasAdded.refused fault' told' refuses' is') =
-    is ∙ ap (λ (f : SessionFault). answer_of [] (fault_line f) 1) (one_refusal (request.Edit (AddMany a.entries)) fault fault' s good.0.present told told' refuses refuses') ∙ sym is'
+    is ∙ ap (added_answer told) (saved_same closed closed' saved saved' same saves saves') ∙ sym is'
+one_added a told s good x y (HasAdded.added closed saved makes saves is) (HasAdded.refused fault known refuses is') =
+    absurd (not_both (request.Edit (AddMany a.entries)) fault s closed good.0.present known refuses makes)
+one_added a told s good x y (HasAdded.refused fault known refuses is) (HasAdded.added closed saved makes saves is') =
+    absurd (not_both (request.Edit (AddMany a.entries)) fault s closed good.0.present known refuses makes)
+one_added a told s good x y (HasAdded.refused fault known refuses is) (HasAdded.refused fault' known' refuses' is') =
+    is ∙ ap (λ (f : SessionFault). answer_of [] (fault_line f) 1) (one_refusal (request.Edit (AddMany a.entries)) fault fault' s good.0.present known known' refuses refuses') ∙ sym is'
 
-one_imported : (latex : Bool) (text : Text) (s : SessionState) → IsGood s → One (HasImported latex text s)
-one_imported latex text s good x y (HasImported.read a adds has) (HasImported.read b adds' has') =
-    one_added b s good x y (subst (λ (a : Additions). HasAdded a s x) (one_additions latex s.steps.present text a b good.0.present adds adds') has) has'
-one_imported latex text s good x y (HasImported.read a adds has) (HasImported.unread fault told refuses is) = absurd (not_refused latex s.steps.present text a fault told adds refuses)
-one_imported latex text s good x y (HasImported.unread fault told refuses is) (HasImported.read a adds has) = absurd (not_refused latex s.steps.present text a fault told adds refuses)
-one_imported latex text s good x y (HasImported.unread fault told refuses is) (HasImported.unread fault' told' refuses' is') =
-    is ∙ ap (λ (f : ImportFault). answer_of [] (import_fault_line f) 1) (one_import_fault latex text fault fault' told told' refuses refuses') ∙ sym is'
+one_imported : (command : Command) (text : Text) (s : SessionState) → IsGood s → One (HasImported command text s)
+one_imported command text s good x y (HasImported.read a adds lines skips has) (HasImported.read b adds' lines' skips' has') =
+    let same : a ≡ b = one_additions command.latex command.strict s.steps.present text a b good.0.present adds adds' in
+    let told : import_told command.skipped a text lines ≡ import_told command.skipped b text lines' =
+    ap (λ (c : Additions). import_told command.skipped c text lines) same
+    ∙ ap (import_told command.skipped b text) (skipping.skips_one text lines lines' skips skips') in
+    one_added b (import_told command.skipped b text lines') s good x y
+    (subst (λ (t : Text). HasAdded b t s x) told (subst (λ (c : Additions). HasAdded c (import_told command.skipped a text lines) s x) same has)) has'
+one_imported command text s good x y (HasImported.read a adds lines skips has) (HasImported.unread fault told refuses is) =
+    absurd (not_refused command.latex command.strict s.steps.present text a fault told adds refuses)
+one_imported command text s good x y (HasImported.unread fault told refuses is) (HasImported.read a adds lines skips has) =
+    absurd (not_refused command.latex command.strict s.steps.present text a fault told adds refuses)
+one_imported command text s good x y (HasImported.unread fault told refuses is) (HasImported.unread fault' told' refuses' is') =
+    is ∙ ap (λ (f : ImportFault). answer_of [] (import_fault_line f) 1) (one_import_fault command.latex command.strict text fault fault' told told' refuses refuses') ∙ sym is'
 
 -- ---- what an insertion answers
 
@@ -283,22 +315,50 @@ one_gain old new new' added added' opens opens' same gain gain' =
     let db' = subst (λ (t : Text). Reads t opens'.0) same opens'.1.reads in
     gain opens.0 opens.1.reads opens'.0 opens'.1.reads ∙ sym (gain' opens.0 opens.1.reads opens'.0 db')
 
-one_put : (at : Position) (text : Text) (s : SessionState) → IsGood s → One (HasPutIn at text s)
-one_put at text s good x y (HasPutIn.inserted closed saved added makes saves gain is) (HasPutIn.inserted closed' saved' added' makes' saves' gain' is') =
+one_put : (at : Position) (text : Text) (s : SessionState) (x y : Answer) (f g : Option SessionFault) → IsGood s → HasPutIn at text s x f → HasPutIn at text s y g → (x ≡ y) × (f ≡ g)
+one_put at text s x y f g good (HasPutIn.inserted closed saved added makes saves gain is) (HasPutIn.inserted closed' saved' added' makes' saves' gain' is') =
     let same : closed ≡ closed' = one_does (request.Insert at text) s closed closed' good.0.present makes makes' in
     let after : IsGood closed = does_keeps_good (request.Insert at text) s closed good makes in
     let count : added ≡ added' = one_gain s.steps.present closed.steps.present closed'.steps.present added added' good.0.present after.0.present (ap (λ (t : SessionState). t.steps.present) same) gain gain' in
-    is ∙ ap (λ (n : ℕ). inserted_answer n saved) count ∙ ap (inserted_answer added') (saved_same closed closed' saved saved' same saves saves') ∙ sym is'
-one_put at text s good x y (HasPutIn.inserted closed saved added makes saves gain is) (HasPutIn.refused fault told refuses is') =
+    (is ∙ ap (λ (n : ℕ). inserted_answer n saved) count ∙ ap (inserted_answer added') (saved_same closed closed' saved saved' same saves saves') ∙ sym is', refl)
+one_put at text s x y f g good (HasPutIn.inserted closed saved added makes saves gain is) (HasPutIn.refused fault told refuses is') =
     absurd (not_both (request.Insert at text) fault s closed good.0.present told refuses makes)
-one_put at text s good x y (HasPutIn.refused fault told refuses is) (HasPutIn.inserted closed saved added makes saves gain is') =
+one_put at text s x y f g good (HasPutIn.refused fault told refuses is) (HasPutIn.inserted closed saved added makes saves gain is') =
     absurd (not_both (request.Insert at text) fault s closed good.0.present told refuses makes)
-one_put at text s good x y (HasPutIn.refused fault told refuses is) (HasPutIn.refused fault' told' refuses' is') =
-    is ∙ ap (λ (f : SessionFault). answer_of [] (uninserted_line f) 1) (one_refusal (request.Insert at text) fault fault' s good.0.present told told' refuses refuses') ∙ sym is'
+one_put at text s x y f g good (HasPutIn.refused fault told refuses is) (HasPutIn.refused fault' told' refuses' is') =
+    let same : fault ≡ fault' = one_refusal (request.Insert at text) fault fault' s good.0.present told told' refuses refuses' in
+    (is ∙ ap (λ (f : SessionFault). answer_of [] (uninserted_line f) 1) same ∙ sym is', ap (λ (f : SessionFault). Some f) same)
+
+-- a text that is refused since it defines a macro can be opened
+opens-if-defined : (at : Position) (text : Text) (s : SessionState) (fault : SessionFault) → RefusesInsertion at text s fault → fault ≡ Refused NameInUse → IsOpenable text
+opens-if-defined at text s fault (RefusesInsertion.during current) is = cc
+opens-if-defined at text s fault (RefusesInsertion.unplanned other closed plan) is = (subst (λ (f : SessionFault). RefusesPlan f at s.steps.present text) is plan).opens
+opens-if-defined at text s fault (RefusesInsertion.full closed lacks) is = cc
+opens-if-defined at text s fault (RefusesInsertion.long closed makes) is = cc
+
+opens-if-put : (at : Position) (text : Text) (s : SessionState) (x : Answer) (fault : Option SessionFault) → HasPutIn at text s x fault → fault ≡ defined_there → IsOpenable text
+opens-if-put at text s x fault (HasPutIn.inserted closed saved added makes saves gain is) defined = cc
+opens-if-put at text s x fault (HasPutIn.refused own told refuses is) defined = opens-if-defined at text s own refuses (same_Some own (Refused NameInUse) defined)
+
+one_news : (at : Position) (file text news other : Text) → IsOpenable file → IsOpenable text → AreNews at file text news → AreNews at file text other → news ≡ other
+one_news at file text news other opens opens' are are' =
+    are.are opens.0 opens.1.reads opens'.0 opens'.1.reads
+    ∙ ap (λ n. bytes_of (news_of (macros_at months opens.0.items n) opens'.0)) (one_place at file are.place are'.place opens are.is_place are'.is_place)
+    ∙ sym (are'.are opens.0 opens.1.reads opens'.0 opens'.1.reads)
+
+one_put_news : (at : Position) (text : Text) (s : SessionState) → IsGood s → One (HasPutNews at text s)
+one_put_news at text s good x y (HasPutNews.whole fault other has) (HasPutNews.whole fault' other' has') = (one_put at text s x y fault fault' good has has').0
+one_put_news at text s good x y (HasPutNews.whole fault other has) (HasPutNews.news told news fault' had are has') =
+    absurd (other (one_put at text s x told fault defined_there good has had).1)
+one_put_news at text s good x y (HasPutNews.news told news fault had are has) (HasPutNews.whole fault' other' has') =
+    absurd (other' (one_put at text s y told fault' defined_there good has' had).1)
+one_put_news at text s good x y (HasPutNews.news told news fault had are has) (HasPutNews.news told' news' fault' had' are' has') =
+    let same : news ≡ news' = one_news at s.steps.present text news news' good.0.present (opens-if-put at text s told defined_there had refl) are are' in
+    (one_put at news' s x y fault fault' good (subst (λ (t : Text). HasPutIn at t s x fault) same has) has').0
 
 one_inserted : (words : List Text) (text : Text) (s : SessionState) → IsGood s → One (HasInserted words text s)
 one_inserted words text s good x y (HasInserted.asked at says has) (HasInserted.asked at' says' has') =
-    one_put at' text s good x y (subst (λ (p : Position). HasPutIn p text s x) (same_Some at at' (sym says ∙ says')) has) has'
+    one_put_news at' text s good x y (subst (λ (p : Position). HasPutNews p text s x) (same_Some at at' (sym says ∙ says')) has) has'
 one_inserted words text s good x y (HasInserted.asked at says has) (HasInserted.no_position none is) = absurd (none-some at (sym none ∙ says))
 one_inserted words text s good x y (HasInserted.no_position none is) (HasInserted.asked at says has) = absurd (none-some at (sym none ∙ says))
 one_inserted words text s good x y (HasInserted.no_position none is) (HasInserted.no_position none' is') = is ∙ sym is'
@@ -326,7 +386,7 @@ one_of_verb Names command file journal input other undiffed = one_names command.
 one_of_verb Explain command file journal input other undiffed = absurd (other refl)
 one_of_verb Edit command file journal input other undiffed = one_whole command file journal input
 one_of_verb Import command file journal input other undiffed =
-    one_session command.new_journal (AnswersInput (HasImported command.latex) input) file journal (λ s good. one_input (HasImported command.latex) input s (one_imported command.latex input s good))
+    one_session command.new_journal (AnswersInput (HasImported command) input) file journal (λ s good. one_input (HasImported command) input s (one_imported command input s good))
 one_of_verb Insert command file journal input other undiffed =
     one_session command.new_journal (AnswersInput (HasInserted (key_words command)) input) file journal
     (λ s good. one_input (HasInserted (key_words command)) input s (one_inserted (key_words command) input s good))

@@ -1,8 +1,9 @@
 -- Runs of the program, as sessions that do what the commands ask for.
-use Rattle.bib_run.proofs.Words.{◌≡◌, ◌≢◌, ℕ, Bool, true, false, ◌==◌, List, [], ◌++◌, length, take, replicate, bytes_eq, codes, Option, Some, None, option_map, inl, inr, refl, sym, ◌∙◌, ap, subst, arith, list_all, false≢true, none-some, same_Some, Text, Reading, IsOpenable, ReadFault, IsOpenFault}
+use Rattle.bib_run.proofs.Words.{◌≡◌, ◌≢◌, ℕ, Bool, true, false, ◌==◌, List, [], ◌++◌, length, take, replicate, bytes_eq, codes, Option, Some, None, option_map, inl, inr, refl, sym, ◌∙◌, ap, subst, arith, list_all, false≢true, none-some, same_Some, Text, IsOpenable, ReadFault, IsOpenFault}
 use Rattle.bib_run.proofs.Words.{KeptSteps, AddMany, Request, SessionFault, Unopened, BadJournal, JournalMismatch, Saved, Saves, SessionState, idle, Opens, IsOpened, RefusesOpen, Performs, HasTurned, one-opening, opened_is_sound, open_fault, Additions, Said, said_of, asked_by_words, Command, Answer}
 use Rattle.bib_run.proofs.Words.{IsUnopened, IsUnfit, OpensWith, judged_journal, bad_journal_line, mismatch_line, fault_line, outcome_after, AnswersSession, AnswersInput, HasEdited, HasEditedBy, HasEditedByWords, IsEditAnswer, IsWordsAnswer, changes_of, stop_line, fault_message, HasAdded}
 use Rattle.bib_run.proofs.Words.{HasImported, IsImportAnswer, IsTurnAnswer, IsLogAnswer, key_words, shown}
+use Rattle.bib_run.specs.ImportAnswer.{import_told}
 use Rattle.std.proofs.Common.{option_and_then, suc, not, ◌&&◌, if◌then◌else◌, IsSomeAnd, ◌∷◌, unwrap_or, ◌⊎◌, ⊎_elim, eqb-true}
 use Rattle.std.specs.Option.{option_map_or}
 use Rattle.std.proofs.lemmas.Bool.{cases_Bool, cond-true, cond-false, and_parts}
@@ -27,7 +28,7 @@ use Rattle.bib_script.specs.Script.{said_by, said_first, nothing_said, request_o
 use Rattle.bib_data.specs.declared.edit.NewEntry.{NewEntry}
 use Rattle.bib_data.specs.declared.position.Position.{Position}
 use Rattle.bib_data.specs.declared.position.Position.TheVariants as position
-use Rattle.bib_run.specs.InsertAnswer.{HasPutIn, HasInserted, IsInsertAnswer}
+use Rattle.bib_run.specs.InsertAnswer.{position_asked, HasPutIn, HasPutNews, HasInserted, IsInsertAnswer}
 use Rattle.bib_script.specs.Words.{step_of, label_of_words}
 use Rattle.bib_words.specs.declared.verbs.Verb.{Verb}
 use Rattle.bib_words.specs.declared.verbs.Verb.TheVariants as verbs
@@ -347,45 +348,51 @@ turn_run command input kept old new answer word request opens asks (IsTurnAnswer
 turn_run command input kept old new answer word request opens asks (IsTurnAnswer.unopened is) stores =
     absurd (not_unopened old.file old.journal kept is.message opens is.why)
 
-added_run : (command : Command) (input : Text) (kept : KeptSteps) (old new : OnDisk) (answer : Answer) (a : Additions) → Opens old.file old.journal kept
-    → Asks command kept.present input (request.Edit (AddMany a.entries) ∷ []) → HasAdded a (idle kept) answer → new ≡ stored old answer.outcome → IsSession command input kept new
-added_run command input kept old new answer a opens asks (HasAdded.added closed saved makes saves is) stores =
+added_run : (command : Command) (input : Text) (kept : KeptSteps) (old new : OnDisk) (answer : Answer) (a : Additions) (told : Text) → Opens old.file old.journal kept
+    → Asks command kept.present input (request.Edit (AddMany a.entries) ∷ []) → HasAdded a told (idle kept) answer → new ≡ stored old answer.outcome → IsSession command input kept new
+added_run command input kept old new answer a told opens asks (HasAdded.added closed saved makes saves is) stores =
     leave_session command input kept old new (request.Edit (AddMany a.entries) ∷ []) 1 None closed saved 1 None opens asks nothing_told
     (record { within = omega arith; did = (closed, makes, refl); stops = tt }) saves (λ one. absurd (omega (arith, one))) (stores ∙ ap (λ (x : Answer). stored old x.outcome) is)
-added_run command input kept old new answer a opens asks (HasAdded.refused fault told refuses is) stores =
-    as_session command input kept new (request.Edit (AddMany a.entries) ∷ []) 0 (Some fault) (idle kept) asks (λ e. told (same_Some fault Memory e))
+added_run command input kept old new answer a told opens asks (HasAdded.refused fault known refuses is) stores =
+    as_session command input kept new (request.Edit (AddMany a.entries) ∷ []) 0 (Some fault) (idle kept) asks (λ e. known (same_Some fault Memory e))
     (record { within = omega arith; did = refl; stops = refuses }) (same_disk kept old new (stores ∙ ap (λ (x : Answer). stored old x.outcome) is) opens)
 
 read_run : (command : Command) (input : Text) (kept : KeptSteps) (old new : OnDisk) (answer : Answer) → Opens old.file old.journal kept → verb_of command.name ≡ Some verbs.Import
-    → HasImported command.latex input (idle kept) answer → new ≡ stored old answer.outcome → IsSession command input kept new
-read_run command input kept old new answer opens named (HasImported.read a adds has) stores =
-    added_run command input kept old new answer a opens (asked verbs.Import command kept.present input (request.Edit (AddMany a.entries) ∷ []) named (AsksAdditions.addition a adds)) has stores
+    → HasImported command input (idle kept) answer → new ≡ stored old answer.outcome → IsSession command input kept new
+read_run command input kept old new answer opens named (HasImported.read a adds lines skips has) stores =
+    added_run command input kept old new answer a (import_told command.skipped a input lines) opens (asked verbs.Import command kept.present input (request.Edit (AddMany a.entries) ∷ []) named (AsksAdditions.addition a adds)) has stores
 read_run command input kept old new answer opens named (HasImported.unread fault told refuses is) stores =
     asks_nothing command input kept old new (asked verbs.Import command kept.present input [] named (AsksAdditions.no_text fault told refuses)) opens (stores ∙ ap (λ (a : Answer). stored old a.outcome) is)
 
 import_run : (command : Command) (input : Text) (kept : KeptSteps) (old new : OnDisk) (answer : Answer) → Opens old.file old.journal kept → verb_of command.name ≡ Some verbs.Import
-    → IsImportAnswer command.latex command.new_journal old.file old.journal input answer → new ≡ stored old answer.outcome → IsSession command input kept new
+    → IsImportAnswer command old.file old.journal input answer → new ≡ stored old answer.outcome → IsSession command input kept new
 import_run command input kept old new answer opens named (AnswersSession.answered opened with (AnswersInput.within short has)) stores =
     read_run command input kept old new answer opens named
-    (subst (λ (s : SessionState). HasImported command.latex input s answer) (opened-with command.new_journal old.file old.journal kept opened opens with) has) stores
+    (subst (λ (s : SessionState). HasImported command input s answer) (opened-with command.new_journal old.file old.journal kept opened opens with) has) stores
 import_run command input kept old new answer opens named (AnswersSession.answered opened with (AnswersInput.too_long far told)) stores =
     asks_nothing command input kept old new (asked verbs.Import command kept.present input [] named (AsksAdditions.too_long far)) opens (stores ∙ ap (λ (a : Answer). stored old a.outcome) told)
 import_run command input kept old new answer opens named (AnswersSession.unopened is) stores =
     absurd (not_refused_with command.new_journal old.file old.journal (idle kept) is.message (fits command.new_journal old.file old.journal kept opens) is.why)
 
-put_run : (command : Command) (input : Text) (kept : KeptSteps) (old new : OnDisk) (answer : Answer) (at : Position) → Opens old.file old.journal kept
-    → Asks command kept.present input (request.Insert at input ∷ []) → HasPutIn at input (idle kept) answer → new ≡ stored old answer.outcome → IsSession command input kept new
-put_run command input kept old new answer at opens asks (HasPutIn.inserted closed saved added makes saves gain is) stores =
-    leave_session command input kept old new (request.Insert at input ∷ []) 1 None closed saved 1 None opens asks nothing_told
+put_run : (command : Command) (input : Text) (kept : KeptSteps) (old new : OnDisk) (answer : Answer) (at : Position) (text : Text) (fault : Option SessionFault) → Opens old.file old.journal kept
+    → Asks command kept.present input (request.Insert at text ∷ []) → HasPutIn at text (idle kept) answer fault → new ≡ stored old answer.outcome → IsSession command input kept new
+put_run command input kept old new answer at text fault opens asks (HasPutIn.inserted closed saved added makes saves gain is) stores =
+    leave_session command input kept old new (request.Insert at text ∷ []) 1 None closed saved 1 None opens asks nothing_told
     (record { within = omega arith; did = (closed, makes, refl); stops = tt }) saves (λ one. absurd (omega (arith, one))) (stores ∙ ap (λ (x : Answer). stored old x.outcome) is)
-put_run command input kept old new answer at opens asks (HasPutIn.refused fault told refuses is) stores =
-    as_session command input kept new (request.Insert at input ∷ []) 0 (Some fault) (idle kept) asks (λ e. told (same_Some fault Memory e))
+put_run command input kept old new answer at text fault opens asks (HasPutIn.refused own told refuses is) stores =
+    as_session command input kept new (request.Insert at text ∷ []) 0 (Some own) (idle kept) asks (λ e. told (same_Some own Memory e))
     (record { within = omega arith; did = refl; stops = refuses }) (same_disk kept old new (stores ∙ ap (λ (x : Answer). stored old x.outcome) is) opens)
+
+put_news_run : (command : Command) (input : Text) (kept : KeptSteps) (old new : OnDisk) (answer : Answer) (at : Position) → Opens old.file old.journal kept → verb_of command.name ≡ Some verbs.Insert
+    → position_asked (key_words command) ≡ Some at → HasPutNews at input (idle kept) answer → new ≡ stored old answer.outcome → IsSession command input kept new
+put_news_run command input kept old new answer at opens named says (HasPutNews.whole fault other has) stores =
+    put_run command input kept old new answer at input fault opens (asked verbs.Insert command kept.present input (request.Insert at input ∷ []) named (AsksInsertion.insertion at says)) has stores
+put_news_run command input kept old new answer at opens named says (HasPutNews.news told news fault had are has) stores =
+    put_run command input kept old new answer at news fault opens (asked verbs.Insert command kept.present input (request.Insert at news ∷ []) named (AsksInsertion.insertion_of_news at news says are)) has stores
 
 text_run : (command : Command) (input : Text) (kept : KeptSteps) (old new : OnDisk) (answer : Answer) → Opens old.file old.journal kept → verb_of command.name ≡ Some verbs.Insert
     → HasInserted (key_words command) input (idle kept) answer → new ≡ stored old answer.outcome → IsSession command input kept new
-text_run command input kept old new answer opens named (HasInserted.asked at says has) stores =
-    put_run command input kept old new answer at opens (asked verbs.Insert command kept.present input (request.Insert at input ∷ []) named (AsksInsertion.insertion at says)) has stores
+text_run command input kept old new answer opens named (HasInserted.asked at says has) stores = put_news_run command input kept old new answer at opens named says has stores
 text_run command input kept old new answer opens named (HasInserted.no_position none is) stores =
     asks_nothing command input kept old new (asked verbs.Insert command kept.present input [] named (AsksInsertion.no_position none)) opens (stores ∙ ap (λ (a : Answer). stored old a.outcome) is)
 

@@ -58,7 +58,7 @@ question_answer Cite command = cite_answer command.strict (key_words command) co
 question_answer Labels command = labels_answer command.depth (key_words command)
 question_answer Json command = json_answer command.raw command.depth (key_words command)
 question_answer NewKeys command = newkeys_answer command.depth
-question_answer Ris command = ris_answer command.dropped command.depth (key_words command)
+question_answer Ris command = ris_answer command.dropped command.plain command.depth (key_words command)
 question_answer Extract command = extract_answer (key_words command)
 
 -- what `edit` answers: to a script, or to the words of one edit if words follow the file
@@ -80,7 +80,7 @@ Answers Lint command file journal input = IsLintAnswer (key_words command) comma
 Answers Names command file journal input = IsNamesAnswer command.depth (key_word command) (template_word command) file
 Answers Explain command file journal input = IsExplainAnswer (first_word command)
 Answers Edit command file journal input = IsWholeAnswer command file journal input
-Answers Import command file journal input = IsImportAnswer command.latex command.new_journal file journal input
+Answers Import command file journal input = IsImportAnswer command file journal input
 Answers Insert command file journal input = IsInsertAnswer command.new_journal (key_words command) file journal input
 Answers Diff command file journal input = IsDiffAnswer (first_word command) (key_word command) file input
 Answers Undo command file journal input = IsTurnAnswer (codes "undone") request.Undo command.n file journal

@@ -2,10 +2,14 @@
 use Rattle.std.specs.Prelude.{ℕ, Bool, ◌≡◌, ◌≢◌, ◌-◌, List, [], ◌∷◌, ◌++◌, length, Option, Some, None, codes}
 use Rattle.std.specs.Fmt.{decimal}
 use Rattle.bib_spec.specs.Text.{Text}
+use Rattle.bib_spec.specs.Reading.{bytes_of}
+use Rattle.bib_spec.specs.Texts.{months, macros_at}
 use Rattle.bib_spec.specs.Records.{entries_of}
 use Rattle.bib_data.specs.declared.position.Position.{Position}
 use Rattle.bib_data.specs.declared.position.Position.TheVariants as position
-use Rattle.bib_edit.specs.declared.fault.EditFault.TheVariants.{BadPosition}
+use Rattle.bib_edit.specs.Positions.{IsPositionPlace}
+use Rattle.bib_edit.specs.declared.fault.EditFault.TheVariants.{BadPosition, NameInUse}
+use Rattle.bib_paste.specs.News.{news_of}
 use Rattle.bib_script.specs.Script.{position_of}
 use Rattle.bib_journal.specs.declared.fault.SessionFault.{SessionFault}
 use Rattle.bib_journal.specs.declared.fault.SessionFault.TheVariants.{Unopened, Refused, Memory}
@@ -53,16 +57,32 @@ abbrev pub IsGain : ℕ → Text → Text → Type 0
 IsGain added old new = OfReadings old new (λ db db'. added ≡ length (entries_of db') - length (entries_of db))
 
 -- the answer of a session to a text at a position: it is put in, as one step; or why it can't be
-pub data HasPutIn (at : Position) (text : Text) (opened : SessionState) (answer : Answer) : Type 0 where
+pub data HasPutIn (at : Position) (text : Text) (opened : SessionState) (answer : Answer) : Option SessionFault → Type 0 where
   inserted : (closed : SessionState) (saved : Saved) (added : ℕ) → Inserts at text opened closed → Saves closed.steps saved → IsGain added opened.steps.present closed.steps.present
-      → answer ≡ inserted_answer added saved → HasPutIn at text opened answer
-  refused : (fault : SessionFault) → fault ≢ Memory → RefusesInsertion at text opened fault → answer ≡ answer_of [] (uninserted_line fault) 1 → HasPutIn at text opened answer
+      → answer ≡ inserted_answer added saved → HasPutIn at text opened answer None
+  refused : (fault : SessionFault) → fault ≢ Memory → RefusesInsertion at text opened fault → answer ≡ answer_of [] (uninserted_line fault) 1 → HasPutIn at text opened answer (Some fault)
+
+-- the bytes of what is new of a text at this position of the file
+pub record AreNews (at : Position) (file text news : Text) : Type 0 where
+  pub place : ℕ
+  pub is_place : IsPositionPlace file at place
+  pub are : OfReadings file text (λ db new. news ≡ bytes_of (news_of (macros_at months db.items place) new))
+
+-- a text is refused since it defines a macro that the file defines
+abbrev pub defined_there : Option SessionFault
+defined_there = Some (Refused NameInUse)
+
+-- the answer of a session to a text at a position, of which only what is new is put in if it defines a macro that the file defines
+pub data HasPutNews (at : Position) (text : Text) (opened : SessionState) (answer : Answer) : Type 0 where
+  whole : (fault : Option SessionFault) → fault ≢ defined_there → HasPutIn at text opened answer fault → HasPutNews at text opened answer
+  news : (told : Answer) (news : Text) (fault : Option SessionFault) → HasPutIn at text opened told defined_there → AreNews at opened.steps.present text news → HasPutIn at news opened answer fault
+      → HasPutNews at text opened answer
 
 -- the answer of a session to a text and the words of a position; or the words say none
 pub data HasInserted (words : List Text) (text : Text) (opened : SessionState) (answer : Answer) : Type 0 where
-  asked : (at : Position) → position_asked words ≡ Some at → HasPutIn at text opened answer → HasInserted words text opened answer
+  asked : (at : Position) → position_asked words ≡ Some at → HasPutNews at text opened answer → HasInserted words text opened answer
   no_position : position_asked words ≡ None → answer ≡ answer_of [] (fault_line (Refused BadPosition)) 1 → HasInserted words text opened answer
 
--- `insert F [POSITION]`: the text is put in at the position
+-- `insert F [POSITION]`: the text is put in at the position, without definitions that say what the file says if it must be
 abbrev pub IsInsertAnswer : Bool → List Text → Text → Option Text → Text → Answer → Type 0
 IsInsertAnswer new_journal words file journal input = AnswersSession new_journal (AnswersInput (HasInserted words) input) file journal

@@ -28,7 +28,7 @@ use Rattle.bib_words.specs.Command.{ReadsJournal}
 use Rattle.bib_answers.specs.declared.answers.Outcome.{Outcome}
 use Rattle.bib_answers.specs.declared.answers.Answer.{Answer}
 use Rattle.bib_data.specs.declared.position.Position.{Position}
-use Rattle.bib_run.specs.InsertAnswer.{position_asked}
+use Rattle.bib_run.specs.InsertAnswer.{position_asked, AreNews}
 use Rattle.bib_run.specs.Answers.{IsAnswer, key_words}
 
 -- ---- what is stored
@@ -69,24 +69,27 @@ pub data AsksEdits (command : Command) (input : Text) : List Request → Type 0 
   too_long : file_limit < length input → AsksEdits command input []
   taken_back : command.all_or_nothing ≡ true → AsksEdits command input []
 
--- the requests of `import`: one addition of all entries that its input says, or none if its input is too long or no RIS text
-pub data AsksAdditions (latex : Bool) (present input : Text) : List Request → Type 0 where
-  addition : (a : Additions) → AreAdditions latex present input a → AsksAdditions latex present input (request.Edit (AddMany a.entries) ∷ [])
-  no_text : (fault : ImportFault) → fault ≢ import_fault.Memory → RefusesImport latex fault input → AsksAdditions latex present input []
-  too_long : file_limit < length input → AsksAdditions latex present input []
+-- the requests of `import`: one addition of all entries that its input says; or none if its input is too long or no RIS text, or with
+-- `--strict` if a line of it is skipped
+pub data AsksAdditions (command : Command) (present input : Text) : List Request → Type 0 where
+  addition : (a : Additions) → AreAdditions command.latex command.strict present input a → AsksAdditions command present input (request.Edit (AddMany a.entries) ∷ [])
+  no_text : (fault : ImportFault) → fault ≢ import_fault.Memory → RefusesImport command.latex command.strict fault input → AsksAdditions command present input []
+  too_long : file_limit < length input → AsksAdditions command present input []
 
--- the requests of `insert`: one insertion of its input, or none if its words say no position or its input is too long
-pub data AsksInsertion (words : List Text) (input : Text) : List Request → Type 0 where
-  insertion : (at : Position) → position_asked words ≡ Some at → AsksInsertion words input (request.Insert at input ∷ [])
-  no_position : position_asked words ≡ None → AsksInsertion words input []
-  too_long : file_limit < length input → AsksInsertion words input []
+-- the requests of `insert`: one insertion of its input, or of what is new of it; or none if its words say no position or its input
+-- is too long
+pub data AsksInsertion (words : List Text) (present input : Text) : List Request → Type 0 where
+  insertion : (at : Position) → position_asked words ≡ Some at → AsksInsertion words present input (request.Insert at input ∷ [])
+  insertion_of_news : (at : Position) (news : Text) → position_asked words ≡ Some at → AreNews at present input news → AsksInsertion words present input (request.Insert at news ∷ [])
+  no_position : position_asked words ≡ None → AsksInsertion words present input []
+  too_long : file_limit < length input → AsksInsertion words present input []
 
 -- The requests of each command to a session with this present file: those of `edit`, `import` and `insert`; `n` undos or redos. `log`
 -- requests nothing, and the other commands open no session.
 abbrev pub Requests : Verb → Command → Text → Text → List Request → Type 0
 Requests Edit command present input = AsksEdits command input
-Requests Import command present input = AsksAdditions command.latex present input
-Requests Insert command present input = AsksInsertion (key_words command) input
+Requests Import command present input = AsksAdditions command present input
+Requests Insert command present input = AsksInsertion (key_words command) present input
 Requests Undo command present input = λ requests. requests ≡ replicate command.n request.Undo
 Requests Redo command present input = λ requests. requests ≡ replicate command.n request.Redo
 Requests Log command present input = λ requests. requests ≡ []

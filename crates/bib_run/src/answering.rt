@@ -172,7 +172,7 @@ fn answer_verb(
         }
         Verb::Explain => answer_explain(alloc, command.word(0)),
         Verb::Edit => answer_whole(alloc, command, file, journal, input),
-        Verb::Import => answer_import(alloc, file, journal, new_journal, input, command.latex),
+        Verb::Import => answer_import(alloc, command, file, journal, input),
         Verb::Insert => {
             let words = command.words_after_file();
             answer_insert(alloc, file, journal, new_journal, words, input)
@@ -216,7 +216,7 @@ fn answer_question(
         Question::NewKeys => answer_newkeys(alloc, file, depth),
         Question::Ris => {
             let keys = command.words_after_file();
-            answer_ris(alloc, file, keys, depth, command.dropped)
+            answer_ris(alloc, file, keys, depth, command.dropped, command.plain)
         }
         Question::Extract => answer_extract(alloc, file, command.words_after_file()),
     }

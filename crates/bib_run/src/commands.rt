@@ -7,4 +7,5 @@ pub mod insert;
 pub mod log;
 pub mod merge;
 pub mod ris;
+pub mod skipping;
 pub mod turning;

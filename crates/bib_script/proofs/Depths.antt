@@ -14,7 +14,7 @@ use Rattle.bib_data.specs.declared.label.Label.{Label}
 use Rattle.bib_data.specs.declared.request.Request.{Request}
 use Rattle.bib_data.specs.declared.request.Request.TheVariants as request
 use Rattle.history_spec.specs.Steps.{label_of}
-use Rattle.bib_script.specs.Script.{position_of, fields_of, new_entry, set_of, drop_of, adding, add_of, remove_of, moving, move_of, set_type_of, rename_key_of, rename_field_of, rename_macro_of, inline_of, introduce_of, undefine_of, depth_of, regenerate_of, renaming_of, edit_of, edit_asked, group_of, end_of, request_of}
+use Rattle.bib_script.specs.Script.{position_of, fields_of, new_entry, set_of, drop_of, adding, add_of, remove_of, moving, move_of, set_type_of, rename_key_of, rename_field_of, rename_macro_of, inline_of, introduce_of, undefine_of, define_of, set_macro_of, depth_of, regenerate_of, macro_edit_of, renaming_of, edit_of, edit_asked, group_of, end_of, request_of}
 use Rattle.bib_script.specs.Words.{step_of}
 
 -- the edit, if there is one, has a depth of 1 to 8, or none
@@ -86,6 +86,18 @@ undefine-fits [] = tt
 undefine-fits (a ∷ []) = tt
 undefine-fits (a ∷ b ∷ words) = tt
 
+define-fits : (words : List Text) → Fits (define_of words)
+define-fits [] = tt
+define-fits (a ∷ []) = tt
+define-fits (a ∷ b ∷ []) = tt
+define-fits (a ∷ b ∷ c ∷ words) = tt
+
+set_macro-fits : (words : List Text) → Fits (set_macro_of words)
+set_macro-fits [] = tt
+set_macro-fits (a ∷ []) = tt
+set_macro-fits (a ∷ b ∷ []) = tt
+set_macro-fits (a ∷ b ∷ c ∷ words) = tt
+
 -- a digit says such a depth
 digit-fits : (word : Text) → IfSome (depth_of word) IsDepth
 digit-fits [] = tt
@@ -109,15 +121,20 @@ regenerate-fits (word ∷ []) = at (depth_of word) (digit-fits word)
     at (Some depth) is = is
 regenerate-fits (a ∷ b ∷ words) = tt
 
+macro_edit-fits : (verb : Text) (words : List Text) → Fits (macro_edit_of verb words)
+macro_edit-fits verb words =
+    either (bytes_eq verb (codes "rename-macro")) _ _ (rename_macro-fits words)
+    (either (bytes_eq verb (codes "inline")) _ _ (inline-fits words)
+    (either (bytes_eq verb (codes "introduce")) _ _ (introduce-fits words)
+    (either (bytes_eq verb (codes "undefine")) _ _ (undefine-fits words)
+    (either (bytes_eq verb (codes "define")) _ _ (define-fits words)
+    (either (bytes_eq verb (codes "set-macro")) _ _ (set_macro-fits words) tt)))))
+
 renaming-fits : (verb : Text) (words : List Text) → Fits (renaming_of verb words)
 renaming-fits verb words =
     either (bytes_eq verb (codes "rename-key")) _ _ (rename_key-fits words)
     (either (bytes_eq verb (codes "rename-field")) _ _ (rename_field-fits words)
-    (either (bytes_eq verb (codes "rename-macro")) _ _ (rename_macro-fits words)
-    (either (bytes_eq verb (codes "inline")) _ _ (inline-fits words)
-    (either (bytes_eq verb (codes "introduce")) _ _ (introduce-fits words)
-    (either (bytes_eq verb (codes "undefine")) _ _ (undefine-fits words)
-    (either (bytes_eq verb (codes "regenerate")) _ _ (regenerate-fits words) tt))))))
+    (either (bytes_eq verb (codes "regenerate")) _ _ (regenerate-fits words) (macro_edit-fits verb words)))
 
 edit-fits : (verb : Text) (words : List Text) → Fits (edit_of verb words)
 edit-fits verb words =

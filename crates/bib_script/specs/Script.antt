@@ -8,7 +8,7 @@ use Rattle.bib_spec.specs.Texts.{is_empty}
 use Rattle.bib_spec.specs.Records.{default_depth}
 use Rattle.history_spec.specs.Steps.{label_of}
 use Rattle.bib_data.specs.declared.edit.Edit.{Edit}
-use Rattle.bib_data.specs.declared.edit.Edit.TheVariants.{SetField, DropField, AddEntry, RemoveEntry, MoveEntry, RenameKey, RenameMacro, InlineMacro, IntroduceMacro, RegenerateKeys, SetType, UndefineMacro, RenameField}
+use Rattle.bib_data.specs.declared.edit.Edit.TheVariants.{SetField, DropField, AddEntry, RemoveEntry, MoveEntry, RenameKey, RenameMacro, InlineMacro, IntroduceMacro, RegenerateKeys, SetType, UndefineMacro, RenameField, DefineMacro, SetMacro}
 use Rattle.bib_data.specs.declared.edit.NewEntry.{NewEntry}
 use Rattle.bib_data.specs.declared.position.Position.{Position}
 use Rattle.bib_data.specs.declared.position.Position.TheVariants.{Number, End, Before, After}
@@ -124,6 +124,16 @@ abbrev pub undefine_of : List Text → Option Edit
 undefine_of (name ∷ []) = Some (UndefineMacro name)
 undefine_of _ = None
 
+-- `define NAME VALUE`
+abbrev pub define_of : List Text → Option Edit
+define_of (name ∷ value ∷ []) = Some (DefineMacro name value)
+define_of _ = None
+
+-- `set-macro NAME VALUE`
+abbrev pub set_macro_of : List Text → Option Edit
+set_macro_of (name ∷ value ∷ []) = Some (SetMacro name value)
+set_macro_of _ = None
+
 -- the depth that one digit from 1 to 8 says
 abbrev pub depth_of : Text → Option ℕ
 depth_of (digit ∷ []) = if nat_le 49 digit && nat_le digit 56 then Some (digit - 48) else None
@@ -135,17 +145,24 @@ regenerate_of [] = Some (RegenerateKeys default_depth)
 regenerate_of (depth ∷ []) = option_map RegenerateKeys (depth_of depth)
 regenerate_of _ = None
 
--- the edit of keys or macros that a verb and the words after it say
+-- the edit of macros that a verb and the words after it say
+abbrev pub macro_edit_of : Text → List Text → Option Edit
+macro_edit_of verb words =
+    if bytes_eq verb (codes "rename-macro") then rename_macro_of words
+    else if bytes_eq verb (codes "inline") then inline_of words
+    else if bytes_eq verb (codes "introduce") then introduce_of words
+    else if bytes_eq verb (codes "undefine") then undefine_of words
+    else if bytes_eq verb (codes "define") then define_of words
+    else if bytes_eq verb (codes "set-macro") then set_macro_of words
+    else None
+
+-- the edit of keys, names of fields or macros that a verb and the words after it say
 abbrev pub renaming_of : Text → List Text → Option Edit
 renaming_of verb words =
     if bytes_eq verb (codes "rename-key") then rename_key_of words
     else if bytes_eq verb (codes "rename-field") then rename_field_of words
-    else if bytes_eq verb (codes "rename-macro") then rename_macro_of words
-    else if bytes_eq verb (codes "inline") then inline_of words
-    else if bytes_eq verb (codes "introduce") then introduce_of words
-    else if bytes_eq verb (codes "undefine") then undefine_of words
     else if bytes_eq verb (codes "regenerate") then regenerate_of words
-    else None
+    else macro_edit_of verb words
 
 -- the edit, without a position, that a verb and the words after it say
 abbrev pub edit_of : Text → List Text → Option Edit

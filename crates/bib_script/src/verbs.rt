@@ -2,7 +2,7 @@
 
 ghost use Rattle.std.specs.Prelude.{◌≡◌, bytes_eq, map, option_map, IfOk};
 ghost use Rattle.bib_data.specs.declared.request.Request.TheVariants as request;
-ghost use Rattle.bib_script.specs.Script.{fields_of, new_entry, set_of, drop_of, adding, add_of, remove_of, moving, move_of, position_of, set_type_of, rename_key_of, rename_field_of, rename_macro_of, inline_of, introduce_of, undefine_of, depth_of, regenerate_of, renaming_of, edit_of, edit_asked, group_of, end_of, request_of};
+ghost use Rattle.bib_script.specs.Script.{fields_of, new_entry, set_of, drop_of, adding, add_of, remove_of, moving, move_of, position_of, set_type_of, rename_key_of, rename_field_of, rename_macro_of, inline_of, introduce_of, undefine_of, define_of, set_macro_of, depth_of, regenerate_of, macro_edit_of, renaming_of, edit_of, edit_asked, group_of, end_of, request_of};
 
 use crate::fields::fields_of;
 use crate::positions::read_position;
@@ -229,6 +229,32 @@ fn undefine_of(alloc: Global, words: &[&[u8]]) -> Result<Option<Edit>, AllocErro
     }))
 }
 
+/// `define NAME VALUE`
+fn define_of(alloc: Global, words: &[&[u8]]) -> Result<Option<Edit>, AllocError>
+    ensures { IfOk result (λ edit. edit ≡ define_of (map (λ w. w.now) words.now)) }
+{
+    let [name, value] = words else {
+        return Ok(None);
+    };
+    Ok(Some(Edit::DefineMacro {
+        name: copied(alloc, name)?,
+        value: copied(alloc, value)?,
+    }))
+}
+
+/// `set-macro NAME VALUE`
+fn set_macro_of(alloc: Global, words: &[&[u8]]) -> Result<Option<Edit>, AllocError>
+    ensures { IfOk result (λ edit. edit ≡ set_macro_of (map (λ w. w.now) words.now)) }
+{
+    let [name, value] = words else {
+        return Ok(None);
+    };
+    Ok(Some(Edit::SetMacro {
+        name: copied(alloc, name)?,
+        value: copied(alloc, value)?,
+    }))
+}
+
 /// The depth that one digit from 1 to 8 says.
 fn depth_of(word: &[u8]) -> Option<u8>
     ensures { result ≡ depth_of word.now }
@@ -255,15 +281,11 @@ fn regenerate_of(words: &[&[u8]]) -> Option<Edit>
     }
 }
 
-/// The edit of keys or macros that a verb and the words after it say.
-fn renaming_of(alloc: Global, verb: &[u8], words: &[&[u8]]) -> Result<Option<Edit>, AllocError>
-    ensures { IfOk result (λ edit. edit ≡ renaming_of verb.now (map (λ w. w.now) words.now)) }
+/// The edit of macros that a verb and the words after it say.
+fn macro_edit_of(alloc: Global, verb: &[u8], words: &[&[u8]]) -> Result<Option<Edit>, AllocError>
+    ensures { IfOk result (λ edit. edit ≡ macro_edit_of verb.now (map (λ w. w.now) words.now)) }
 {
-    if is(verb, b"rename-key") {
-        rename_key_of(alloc, words)
-    } else if is(verb, b"rename-field") {
-        rename_field_of(alloc, words)
-    } else if is(verb, b"rename-macro") {
+    if is(verb, b"rename-macro") {
         rename_macro_of(alloc, words)
     } else if is(verb, b"inline") {
         inline_of(alloc, words)
@@ -271,10 +293,27 @@ fn renaming_of(alloc: Global, verb: &[u8], words: &[&[u8]]) -> Result<Option<Edi
         introduce_of(alloc, words)
     } else if is(verb, b"undefine") {
         undefine_of(alloc, words)
+    } else if is(verb, b"define") {
+        define_of(alloc, words)
+    } else if is(verb, b"set-macro") {
+        set_macro_of(alloc, words)
+    } else {
+        Ok(None)
+    }
+}
+
+/// The edit of keys, names of fields or macros that a verb and the words after it say.
+fn renaming_of(alloc: Global, verb: &[u8], words: &[&[u8]]) -> Result<Option<Edit>, AllocError>
+    ensures { IfOk result (λ edit. edit ≡ renaming_of verb.now (map (λ w. w.now) words.now)) }
+{
+    if is(verb, b"rename-key") {
+        rename_key_of(alloc, words)
+    } else if is(verb, b"rename-field") {
+        rename_field_of(alloc, words)
     } else if is(verb, b"regenerate") {
         Ok(regenerate_of(words))
     } else {
-        Ok(None)
+        macro_edit_of(alloc, verb, words)
     }
 }
 

@@ -126,6 +126,7 @@ takes_scripts _ = false
 -- the commands that take `--strict`
 abbrev pub takes_strict : Verb → Bool
 takes_strict (Asks Cite) = true
+takes_strict Import = true
 takes_strict _ = false
 
 -- the commands that take `--latex`
@@ -137,6 +138,16 @@ takes_latex _ = false
 abbrev pub takes_raw : Verb → Bool
 takes_raw (Asks Json) = true
 takes_raw _ = false
+
+-- the commands that take `--skipped`
+abbrev pub takes_skipped : Verb → Bool
+takes_skipped Import = true
+takes_skipped _ = false
+
+-- the commands that take `--plain`
+abbrev pub takes_plain : Verb → Bool
+takes_plain (Asks Ris) = true
+takes_plain _ = false
 
 -- the commands that read other files too, before and after their own
 abbrev pub takes_others : Verb → Bool

@@ -1,7 +1,7 @@
 //! The commands as data: what each takes and reads.
 
 ghost use Rattle.std.specs.Prelude.{◌≡◌, bytes_eq};
-ghost use Rattle.bib_words.specs.Verbs.{adds_change, makes_file, reads_journal, takes_input, takes_dropped, takes_at, takes_scripts, takes_strict, takes_latex, takes_raw, takes_others, takes_print, question_shape, shape, verb_of};
+ghost use Rattle.bib_words.specs.Verbs.{adds_change, makes_file, reads_journal, takes_input, takes_dropped, takes_at, takes_scripts, takes_strict, takes_latex, takes_raw, takes_skipped, takes_plain, takes_others, takes_print, question_shape, shape, verb_of};
 
 /// A command that answers what its file says, and reads nothing else.
 #[derive(Clone, Copy, Debug, PartialEq, Eq)]
@@ -210,7 +210,7 @@ impl Verb {
     pub fn takes_strict(self) -> bool
         ensures { result ≡ takes_strict self }
     {
-        matches!(self, Verb::Asks(Question::Cite))
+        matches!(self, Verb::Asks(Question::Cite) | Verb::Import)
     }
 
     /// Whether the command takes `--latex`.
@@ -225,6 +225,20 @@ impl Verb {
         ensures { result ≡ takes_raw self }
     {
         matches!(self, Verb::Asks(Question::Json))
+    }
+
+    /// Whether the command takes `--skipped`.
+    pub fn takes_skipped(self) -> bool
+        ensures { result ≡ takes_skipped self }
+    {
+        matches!(self, Verb::Import)
+    }
+
+    /// Whether the command takes `--plain`.
+    pub fn takes_plain(self) -> bool
+        ensures { result ≡ takes_plain self }
+    {
+        matches!(self, Verb::Asks(Question::Ris))
     }
 
     /// Whether the command reads other files too, before and after its own.

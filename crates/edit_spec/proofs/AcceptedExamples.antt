@@ -1,9 +1,9 @@
 -- The edits of the examples are accepted: no reason refuses them.
 use Rattle.edit_spec.proofs.Words.{◌≡◌, ℕ, zero, suc, ◌≤◌, List, ◌∷◌, Some, All, codes, ⊎_elim, refl, sym, arith, not-suc-le-zero, le_of_suc-le-suc, AllPass, is_ascii_digit, false≢true, none-some, name_limit, is_space, is_name_byte, is_new_key_byte, is_name_within, is_new_key, opened_before}
-use Rattle.edit_spec.proofs.Words.{closed_before, begins_command, IsClean, IsCleanTrail, Digits, is_comment, IsValue, Item, months, field_text, SetField, DropField, AddEntry, RemoveEntry, MoveEntry, RenameKey, RenameMacro, InlineMacro, IntroduceMacro, RegenerateKeys, AddMany, BadKey, BadName}
+use Rattle.edit_spec.proofs.Words.{closed_before, begins_command, IsClean, IsCleanTrail, Digits, is_comment, IsValue, Item, months, field_text, SetField, DropField, AddEntry, RemoveEntry, MoveEntry, RenameKey, RenameMacro, InlineMacro, IntroduceMacro, RegenerateKeys, AddMany, DefineMacro, SetMacro, BadKey, BadName}
 use Rattle.edit_spec.proofs.Words.{BadValue, BadPosition, NotFound, Ambiguous, KeyInUse, NameInUse, Referred, WouldMerge, FileTooLong, TextTooLong, in_braces, remove_entry, inline_macro, IsAccepted, entries_of, parent, one_field, author_year}
 use Rattle.std.proofs.Common.{[]}
-use Rattle.edit_spec.specs.Examples.{only, waiting, z, two_lines, named_by_macro, overridden_month, quoting, same_text_twice, swapped, family}
+use Rattle.edit_spec.specs.Examples.{only, waiting, z, two_lines, named_by_macro, overridden_month, quoting, same_text_twice, swapped, family, with_remark}
 
 -- an edit without values has no bad one
 no_values : All (IsValue name_limit) []
@@ -240,3 +240,33 @@ is_many_added Referred h = absurd h
 is_many_added WouldMerge h = absurd h
 is_many_added FileTooLong h = omega (arith, h)
 is_many_added TextTooLong h = false≢true h
+
+pub is_macro_defined : IsAccepted author_year one_field (DefineMacro (codes "m") (only (Digits (codes "2"))))
+unfolding months field_text is_space is_name_byte is_new_key_byte is_name_within is_new_key
+is_macro_defined BadKey h = false≢true (sym h)
+is_macro_defined BadName h = false≢true (sym h)
+is_macro_defined BadValue h = h one_digit
+is_macro_defined BadPosition h = absurd h
+is_macro_defined NotFound h = absurd h
+is_macro_defined Ambiguous h = absurd h
+is_macro_defined KeyInUse h = absurd h
+is_macro_defined NameInUse h = omega (arith, h)
+is_macro_defined Referred h = absurd h
+is_macro_defined WouldMerge h = absurd h
+is_macro_defined FileTooLong h = omega (arith, h)
+is_macro_defined TextTooLong h = false≢true h
+
+pub is_macro_set : IsAccepted author_year with_remark (SetMacro (codes "a") (only (Digits (codes "2"))))
+unfolding months field_text is_space is_name_byte is_new_key_byte is_name_within is_new_key
+is_macro_set BadKey h = false≢true (sym h)
+is_macro_set BadName h = false≢true (sym h)
+is_macro_set BadValue h = h one_digit
+is_macro_set BadPosition h = absurd h
+is_macro_set NotFound h = omega (arith, h)
+is_macro_set Ambiguous h = omega (arith, h)
+is_macro_set KeyInUse h = absurd h
+is_macro_set NameInUse h = absurd h
+is_macro_set Referred h = absurd h
+is_macro_set WouldMerge h = absurd h
+is_macro_set FileTooLong h = omega (arith, h)
+is_macro_set TextTooLong h = false≢true h

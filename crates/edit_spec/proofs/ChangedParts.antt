@@ -2,7 +2,7 @@
 use Rattle.edit_spec.proofs.Words.{◌≡◌, ◌&&◌, true, List, ◌∷◌, Option, Some, unwrap_or, length, map, All, codes, ⊎_elim, refl, sym, subst, and_parts, none-some, cond_some, All-nil, All-cons, All-head, All-tail, name_limit, Text, same, is_name, is_name_byte, is_name_within, is_type_name, IsBalanced}
 use Rattle.edit_spec.proofs.Words.{Part, Braced, Quoted, Digits, Macro, Link, Value, Assignment, Row, Delimiter, Tree, CommentTree, DefinitionTree, PreambleTree, EntryTree, is_comment, IsSpace, IsPart, IsLink, IsValue, IsRow, IsTree, Item, Reading, bytes_of, IsItem, Reads, seen, Record, holds}
 use Rattle.edit_spec.proofs.Words.{any_part, RenameMacro, InlineMacro, IntroduceMacro, WouldMerge, changed, link_with, value_with, assignment_with, row_with, tree_with, item_with, items_with, leaving, defines, from_first, in_line, in_braces, name_renamed, use_renamed, rename_macro, use_inlined}
-use Rattle.edit_spec.proofs.Words.{uses_inlined, text_of_macro, inline_macro, definition_of, part_introduced, introduced, introduce_macro, IsAccepted, option_cases}
+use Rattle.edit_spec.proofs.Words.{uses_inlined, text_of_macro, inline_macro, definition_as, definition_of, part_introduced, introduced, introduce_macro, IsAccepted, option_cases}
 use Rattle.std.proofs.Common.{[]}
 use Rattle.bib_spec.specs.Tree.{IsAssignment, IsDefinition}
 use Rattle.edit_spec.proofs.Balanced.{empty_balanced, macros-balance}
@@ -125,11 +125,11 @@ string_type : is_type_name (codes "string") ≡ true
 unfolding is_name_within is_name_byte
 string_type = refl
 
-new_definition : (name text : Text) → is_name name ≡ true → IsValue name_limit (in_braces text) → IsDefinition name_limit (definition_of name text)
-new_definition name text named value = record {
+pub new_definition : (name : Text) (value : Value) → is_name name ≡ true → IsValue name_limit value → IsDefinition name_limit (definition_as name value)
+new_definition name value named is = record {
   opening = record { head = record { space_before_type = no_space; type_name = string_type }; space_before_delimiter = no_space; space_after = no_space };
   type_name = refl;
-  assignment = record { name = named; space_before_equals = one_space; space_before_value = one_space; value = value; space_after = no_space };
+  assignment = record { name = named; space_before_equals = one_space; space_before_value = one_space; value = is; space_after = no_space };
 }
 
 pub introduce_macro-reads : (key_base : Record → Text) (file : Text) (db : Reading) (name text : Text) → Reads file db → IsAccepted key_base db (IntroduceMacro name text) →
@@ -138,7 +138,7 @@ introduce_macro-reads key_base file db name text reads accepted =
     made_reads (introduce_macro name text db) reads.front
     (from_first-are (any_part (holds text)) (IsItem name_limit) (introduced name text)
     (λ item items held are. All-cons (IsItem name_limit) (in_line (DefinitionTree (definition_of name text))) (items_with leaving (part_introduced name text) (item ∷ items))
-    (in_line-is (DefinitionTree (definition_of name text)) (new_definition name text named
+    (in_line-is (DefinitionTree (definition_of name text)) (new_definition name (in_braces text) named
     (All-head (IsValue name_limit) (in_braces text) [] (given_values-are key_base db (IntroduceMacro name text) accepted))))
     (items_changed leaving (part_introduced name text) no_names (introduced_part name text named) (item ∷ items) are)) db.items reads.items)
   where

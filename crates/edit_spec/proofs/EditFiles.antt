@@ -1,16 +1,16 @@
 -- The chunks of an edit have the file as their old text, and the file of the new database as their new text.
 use Rattle.edit_spec.proofs.Words.{◌≡◌, ℕ, zero, suc, Bool, true, false, List, ◌∷◌, ◌++◌, Option, Some, None, option_and_then, unwrap_or, refl, sym, ◌∙◌, ap, ap₂, subst, append_assoc, append-nil, take, drop, insert, map, find, slice_get, ⊎_elim, option_map_or, flat_map, cases_Bool, cond-true}
 use Rattle.edit_spec.proofs.Words.{cond-false, flat_map-append, Text, same, Value, Row, Entry, Tree, CommentTree, DefinitionTree, PreambleTree, EntryTree, value_bytes, row_bytes, tree_bytes, Item, Reading, item_bytes, bytes_of, row_start, EntryTexts, Record, entries_of, crossref, entry_named}
-use Rattle.edit_spec.proofs.Words.{target, Chunk, Kept, Replaced, applied, changed, new_keys, holds, any_part, NewEntry, Edit, SetField, DropField, AddEntry, RemoveEntry, MoveEntry, RenameKey, RenameMacro, InlineMacro, IntroduceMacro, RegenerateKeys, AddMany, SetType, UndefineMacro, RenameField, leaving, defines, is_entry, from_first}
+use Rattle.edit_spec.proofs.Words.{target, Chunk, Kept, Replaced, applied, changed, new_keys, holds, any_part, NewEntry, Edit, SetField, DropField, AddEntry, RemoveEntry, MoveEntry, RenameKey, RenameMacro, InlineMacro, IntroduceMacro, RegenerateKeys, AddMany, SetType, UndefineMacro, RenameField, DefineMacro, SetMacro, leaving, defines, is_entry, from_first}
 use Rattle.edit_spec.proofs.Words.{with_first_tree, without_first, with_item, items_with, new_row, row_to, row_before, with_field, without_field, of_entry, item_of, in_line, in_braces, with_value, with_crossref, next_number, tree_with_keys, items_with_keys, key_for, name_renamed, use_renamed}
-use Rattle.edit_spec.proofs.Words.{use_inlined, uses_inlined, text_of_macro, definition_of, part_introduced, introduced, edited, token, entry_chunks, items_chunks, kept_items, kept_rows, pieces_of, option_cases}
+use Rattle.edit_spec.proofs.Words.{use_inlined, uses_inlined, text_of_macro, definition_as, definition_of, part_introduced, introduced, edited, token, entry_chunks, items_chunks, kept_items, kept_rows, pieces_of, option_cases}
 use Rattle.std.proofs.Common.{[], take-append-drop, scan}
 use Rattle.std.specs.List.{concat}
 use Rattle.bib_spec.specs.Pieces.{Fit}
 use Rattle.bib_spec.specs.Bytes.{at_sign, comma, equals_sign}
-use Rattle.bib_spec.specs.Tree.{open_byte, after_key_bytes, entry_bytes}
-use Rattle.edit_spec.specs.Edits.{entry_with_rows, entry_with_type, row_renamed, entry_renamed, item_changed}
-use Rattle.edit_spec.specs.EditChunks.{kept_item, after_name, row_name_chunks, names_replaced, each_entry_as, body_and_rest, chunks_from_first, without_body, entry_body, entry_as, value_replaced, field_set, field_dropped, type_replaced, crossref_chunks, tree_key_chunks, item_key_chunks, groups_without, inserted, moved, appended, changed_items, chunks}
+use Rattle.bib_spec.specs.Tree.{opening_bytes, open_byte, close_byte, after_key_bytes, entry_bytes}
+use Rattle.edit_spec.specs.Edits.{entry_with_rows, entry_with_type, row_renamed, entry_renamed, item_changed, line_end, definition_to, definitions_end, put_after}
+use Rattle.edit_spec.specs.EditChunks.{kept_item, after_name, row_name_chunks, names_replaced, each_entry_as, body_and_rest, chunks_from_first, without_body, entry_body, entry_as, value_replaced, field_set, field_dropped, type_replaced, crossref_chunks, tree_key_chunks, item_key_chunks, groups_without, inserted, chunks_after, definition_chunks, moved, appended, changed_items, chunks}
 use Rattle.edit_spec.specs.Laws.{chunks_are_files, pieces_lead_to_edited}
 use Rattle.edit_spec.proofs.TreeChunks.{chunk_text, assignment_regroup, last-read, read, old-read, new-read, read-append, token_old, token_new, row-parts, last-read, entry-read, items-old, items-new, rows-kept, items-kept}
 use Rattle.bib_spec.proofs.Chunks.{chunks-fit, chunks-lead}
@@ -478,6 +478,66 @@ appended_new : (news : List NewEntry) → read true (appended news) ≡ items_by
 appended_new [] = refl
 appended_new (new ∷ news) = append-nil (items_bytes (map item_of (new ∷ news)))
 
+-- ---- a definition put in
+
+stay_regroup : (b t r : Text) → b ++ (t ++ r) ≡ (b ++ t) ++ r
+stay_regroup b t r = simp append_assoc
+
+put_regroup : (b l d t r : Text) → b ++ ((l ++ d) ++ (t ++ r)) ≡ (b ++ l) ++ ((d ++ t) ++ r)
+put_regroup b l d t r = simp append_assoc
+
+module _ (tree : Tree) where
+  after_old : (n : ℕ) (items : List Item) → read false (chunks_after n tree items) ≡ items_bytes items
+  after_old zero items = items-kept false items
+  after_old (suc n) [] = refl
+  after_old (suc zero) (item ∷ items) =
+      stay_regroup (tree_bytes item.tree) item.trail (read false (kept_items items)) ∙ ap (λ t. item_bytes item ++ t) (items-kept false items)
+  after_old (suc (suc n)) (item ∷ items) = ap (λ t. item_bytes item ++ t) (after_old (suc n) items)
+
+  after_new : (n : ℕ) (items : List Item) → read true (chunks_after n tree items) ≡ items_bytes (put_after n tree items)
+  after_new zero items = ap (λ t. item_bytes (in_line tree) ++ t) (items-kept true items)
+  after_new (suc n) [] = refl
+  after_new (suc zero) (item ∷ items) =
+      put_regroup (tree_bytes item.tree) line_end (tree_bytes tree) item.trail (read true (kept_items items))
+      ∙ ap (λ t. item_bytes (in_line item.tree) ++ ((tree_bytes tree ++ item.trail) ++ t)) (items-kept true items)
+  after_new (suc (suc n)) (item ∷ items) = ap (λ t. item_bytes item ++ t) (after_new (suc n) items)
+
+-- ---- the value of a definition
+
+assigned_regroup : (o n x y v s c : Text) → (o ++ (n ++ (x ++ y))) ++ (v ++ (s ++ c)) ≡ o ++ (n ++ x ++ y ++ v ++ s) ++ c
+assigned_regroup o n x y v s c = simp append_assoc
+
+value_regroup : (o n x y v s c : Text) → (o ++ (n ++ (x ++ y))) ++ (v ++ ((s ++ c) ++ [])) ≡ o ++ (n ++ x ++ y ++ v ++ s) ++ c
+value_regroup o n x y v s c = ap (λ t. (o ++ (n ++ (x ++ y))) ++ (v ++ t)) (append-nil (s ++ c)) ∙ assigned_regroup o n x y v s c
+
+module _ (name : Text) (value : Value) where
+  definition_old : (tree : Tree) → read false (definition_chunks value tree) ≡ tree_bytes tree
+  definition_old (DefinitionTree d) =
+      value_regroup (opening_bytes d.opening) d.assignment.name d.assignment.space_before_equals (equals_sign ∷ d.assignment.space_before_value)
+      (value_bytes d.assignment.value) d.assignment.space_after (close_byte d.opening.delimiter ∷ [])
+  definition_old (CommentTree h) = append-nil (tree_bytes (CommentTree h))
+  definition_old (PreambleTree p) = append-nil (tree_bytes (PreambleTree p))
+  definition_old (EntryTree e) = append-nil (tree_bytes (EntryTree e))
+
+  definition_new : (tree : Tree) → read true (definition_chunks value tree) ≡ tree_bytes (definition_to value tree)
+  definition_new (DefinitionTree d) =
+      value_regroup (opening_bytes d.opening) d.assignment.name d.assignment.space_before_equals (equals_sign ∷ d.assignment.space_before_value)
+      (value_bytes value) d.assignment.space_after (close_byte d.opening.delimiter ∷ [])
+  definition_new (CommentTree h) = append-nil (tree_bytes (CommentTree h))
+  definition_new (PreambleTree p) = append-nil (tree_bytes (PreambleTree p))
+  definition_new (EntryTree e) = append-nil (tree_bytes (EntryTree e))
+
+  abbrev definition_set : Item → List Item → List Chunk
+  definition_set item items = body_and_rest (definition_chunks value item.tree) item items
+
+  value_old : (items : List Item) → read false (chunks_from_first (defines name) definition_set items) ≡ items_bytes items
+  value_old items = first_old (defines name) definition_set
+      (λ item items. rest-read false (definition_chunks value item.tree) item items (tree_bytes item.tree) (definition_old item.tree)) items
+
+  value_new : (items : List Item) → read true (chunks_from_first (defines name) definition_set items) ≡ items_bytes (from_first (defines name) (with_first_tree (definition_to value)) items)
+  value_new items = first_new (defines name) definition_set (with_first_tree (definition_to value))
+      (λ item items. rest-read true (definition_chunks value item.tree) item items (tree_bytes (definition_to value item.tree)) (definition_new item.tree)) items
+
 -- ---- all edits
 
 module _ (key_base : Record → Text) (db : Reading) where
@@ -508,6 +568,8 @@ module _ (key_base : Record → Text) (db : Reading) where
   items_old (UndefineMacro name) = first_old (defines name) without_body (removed_old (defines name)) db.items
   items_old (RenameField from to None) = each_old (entry_renamed from to) (names_replaced from to) (renamed_old from to) (renamed_new from to) db.items
   items_old (RenameField from to (Some key)) = became_old (entry_renamed from to) (names_replaced from to) (renamed_old from to) (renamed_new from to) key db.items
+  items_old (DefineMacro name value) = after_old (DefinitionTree (definition_as name value)) (definitions_end db.items) db.items
+  items_old (SetMacro name value) = value_old name value db.items
 
   file_new : (e : Edit) → db.front ++ read true (changed_items key_base db e) ≡ bytes_of (edited key_base db e)
   file_new (SetField key name value) = ap (λ t. db.front ++ t)
@@ -539,6 +601,8 @@ module _ (key_base : Record → Text) (db : Reading) where
   file_new (UndefineMacro name) = removed_new (defines name) db.front db.items
   file_new (RenameField from to None) = ap (λ t. db.front ++ t) (each_new (entry_renamed from to) (names_replaced from to) (renamed_old from to) (renamed_new from to) db.items)
   file_new (RenameField from to (Some key)) = ap (λ t. db.front ++ t) (became_new (entry_renamed from to) (names_replaced from to) (renamed_old from to) (renamed_new from to) key db.items)
+  file_new (DefineMacro name value) = ap (λ t. db.front ++ t) (after_new (DefinitionTree (definition_as name value)) (definitions_end db.items) db.items)
+  file_new (SetMacro name value) = ap (λ t. db.front ++ t) (value_new name value db.items)
 
 pub chunks-are-files : chunks_are_files
 chunks-are-files key_base db e = (

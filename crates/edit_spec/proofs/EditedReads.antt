@@ -1,5 +1,5 @@
 -- What every accepted edit makes is a reading of its bytes, and its file can be opened.
-use Rattle.edit_spec.proofs.Words.{◌≡◌, ◌≤◌, is_some, length, ⊎_elim, sym, ◌∙◌, ap, subst, file_limit, Text, Reads, bytes_of, too_long_at, applied, SetField, DropField, AddEntry, RemoveEntry, MoveEntry, RenameKey, RenameMacro, InlineMacro, IntroduceMacro, RegenerateKeys, AddMany, SetType, UndefineMacro, RenameField, TextTooLong}
+use Rattle.edit_spec.proofs.Words.{◌≡◌, ◌≤◌, is_some, length, ⊎_elim, sym, ◌∙◌, ap, subst, file_limit, Text, Reads, bytes_of, too_long_at, applied, SetField, DropField, AddEntry, RemoveEntry, MoveEntry, RenameKey, RenameMacro, InlineMacro, IntroduceMacro, RegenerateKeys, AddMany, SetType, UndefineMacro, RenameField, DefineMacro, SetMacro, TextTooLong}
 use Rattle.edit_spec.proofs.Words.{edited, pieces_of, option_cases}
 use Rattle.edit_spec.specs.EditLaws.{edited_reads, applied_opens}
 use Rattle.edit_spec.proofs.EditFiles.{pieces-lead}
@@ -9,6 +9,8 @@ use Rattle.edit_spec.proofs.DropField.{drop_field-reads}
 use Rattle.edit_spec.proofs.SetType.{set_type-reads}
 use Rattle.edit_spec.proofs.UndefineMacro.{undefine_macro-reads}
 use Rattle.edit_spec.proofs.RenameField.{rename_field-reads}
+use Rattle.edit_spec.proofs.DefineMacro.{defined_macro-reads}
+use Rattle.edit_spec.proofs.SetMacro.{macro_set-reads}
 use Rattle.edit_spec.proofs.AddedEntries.{add_entry-reads, add_many-reads}
 use Rattle.edit_spec.proofs.MovedEntries.{remove_entry-reads, move_entry-reads}
 use Rattle.edit_spec.proofs.RekeyedEntries.{rename_key-reads}
@@ -30,6 +32,8 @@ edited-reads key_base file db (AddMany news) base reads accepted = add_many-read
 edited-reads key_base file db (SetType key kind_name) base reads accepted = set_type-reads key_base file db key kind_name reads accepted
 edited-reads key_base file db (UndefineMacro name) base reads accepted = undefine_macro-reads key_base file db name reads accepted
 edited-reads key_base file db (RenameField from to key) base reads accepted = rename_field-reads key_base file db from to key reads accepted
+edited-reads key_base file db (DefineMacro name value) base reads accepted = defined_macro-reads key_base file db name value reads accepted
+edited-reads key_base file db (SetMacro name value) base reads accepted = macro_set-reads key_base file db name value reads accepted
 
 pub applied-opens : applied_opens
 applied-opens key_base file db e base reads accepted =

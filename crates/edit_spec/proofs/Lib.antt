@@ -34,6 +34,9 @@ pub mod KeptEntries
 pub mod FirstEntries
 pub mod SetType
 pub mod UndefineMacro
+pub mod AgreeingMacros
+pub mod DefineMacro
+pub mod SetMacro
 pub mod RenameField
 pub mod RenamedRecords
 pub mod AddedEntries

@@ -3,13 +3,13 @@
 use Rattle.edit_spec.proofs.Words.{◌≡◌, ◌≢◌, ◌||◌, ◌&&◌, ◌==◌, ℕ, zero, suc, ◌+◌, ◌<◌, ◌≤◌, Bool, true, false, List, ◌∷◌, ◌++◌, Option, Some, None, is_some, unwrap_or, not, option_map, option_and_then, insert, find, map, slice_get, length, take, count_by, ⊎_elim, refl, sym, ◌∙◌, ap, ap₂, subst}
 use Rattle.edit_spec.proofs.Words.{arith, append-nil, add-zero, eq-eqb, zero-lt-suc, suc-le-suc, le_of_suc-le-suc, list_any, option_map_or, bytes_eq, and_parts, not-false, cases_Bool, cond-true, cond-false, or_parts, both_ways, none-some, same_Some, Text, same, Part, Braced, Quoted, Digits, Macro}
 use Rattle.edit_spec.proofs.Words.{Link, Value, Row, Entry, Tree, CommentTree, DefinitionTree, PreambleTree, EntryTree, Item, Reading, Macros, months, macros_after, gathered, EntryTexts, Record, entry_in, entries_of, keys_of, crossref, is_named, entry_named, target, uses, holds, any_part, SetField}
-use Rattle.edit_spec.proofs.Words.{DropField, AddEntry, RemoveEntry, MoveEntry, RenameKey, RenameMacro, InlineMacro, IntroduceMacro, RegenerateKeys, AddMany, SetType, UndefineMacro, RenameField, NotFound, Ambiguous, BadPosition, IsAccepted, edited, leaving, item_with, items_with, defines, is_entry, from_first, with_first_tree}
+use Rattle.edit_spec.proofs.Words.{DropField, AddEntry, RemoveEntry, MoveEntry, RenameKey, RenameMacro, InlineMacro, IntroduceMacro, RegenerateKeys, AddMany, SetType, UndefineMacro, RenameField, DefineMacro, SetMacro, NotFound, Ambiguous, BadPosition, IsAccepted, edited, leaving, item_with, items_with, defines, is_entry, from_first, with_first_tree}
 use Rattle.edit_spec.proofs.Words.{without_first, of_entry, entry_with_field, entry_without_field, in_line, item_of, with_item, remove_entry, next_number, tree_with_keys, items_with_keys, in_braces, row_to, with_value, with_crossref, key_for, name_renamed, use_renamed, use_inlined, uses_inlined}
 use Rattle.edit_spec.proofs.Words.{text_of_macro, part_introduced, introduced, holders, new_keys, is_after, is_reached, number_with_one_more, entries_before, both_true, eq-true, count-no, option_cases, there_once}
 use Rattle.std.proofs.Common.{◌-◌, [], if◌then◌else◌, eqb-true, ne_eqb}
 use Rattle.std.proofs.lemmas.List.{nil_from_length}
 use Rattle.std.proofs.lemmas.Option.{slice_get-map}
-use Rattle.edit_spec.specs.Edits.{item_with_keys, last_position, entry_with_type, row_renamed, entry_renamed}
+use Rattle.edit_spec.specs.Edits.{item_with_keys, last_position, entry_with_type, row_renamed, entry_renamed, line_end, definition_as, definition_to, definitions_end, put_after}
 use Rattle.edit_spec.specs.OtherLaws.{number_with_one_less, passes, number_of_first, is_first, has_row, is_any_entry, is_braced, is_in_braces, names_already, has_its_keys, is_or_refers_to, is_changed, gained, StandsAt, KeepsItems, untouched_items_stay, moved_entry_stays}
 use Rattle.edit_spec.proofs.RenameKey.{only}
 use Rattle.edit_spec.proofs.OneMore.{slice_get-insert, slice_get-insert_same, within}
@@ -57,9 +57,13 @@ stands_alone : (items : List Item) (n : ℕ) (changed : Bool) (item : Item) (mor
 stands_alone items n changed item more e s =
     record { item = s.item; at = s.at; trail_is = s.trail_is ∙ sym (append-nil item.trail) ∙ sym (ap (λ t. item.trail ++ t) e); tree_is = s.tree_is }
 
+-- a trail with what it gains from a removed neighbour
+abbrev joined : (ℕ → Bool) → Reading → ℕ → Text → Text
+joined gone db n trail = trail ++ gained gone db.items (suc n)
+
 -- edits that remove no item and keep all numbers
 in_place : (changed : ℕ → Bool) (old new : Reading) → new.front ≡ old.front →
-    ((n : ℕ) (item : Item) → slice_get old.items n ≡ Some item → StandsAt new.items n (changed n) item.tree item.trail) → KeepsItems (λ n. false) changed (λ n. n) old new
+    ((n : ℕ) (item : Item) → slice_get old.items n ≡ Some item → StandsAt new.items n (changed n) item.tree item.trail) → KeepsItems (λ n. false) changed (λ n. n) (joined (λ n. false) old) old new
 in_place changed old new front items = record {
   front = front ∙ sym (append-nil old.front);
   items = λ n item _ at. stands_alone new.items n (changed n) item [] refl (items n item at);
@@ -439,7 +443,7 @@ introduced_at name text (first ∷ items) n item at = by_test (λ n at. introduc
 
 -- ---- an item put in
 
-put_in : (place : ℕ) (item : Item) (db : Reading) → place ≤ length db.items → KeepsItems (λ n. false) (λ n. false) (number_with_one_more place) db (with_item place item db)
+put_in : (place : ℕ) (item : Item) (db : Reading) → place ≤ length db.items → KeepsItems (λ n. false) (λ n. false) (number_with_one_more place) (joined (λ n. false) db) db (with_item place item db)
 put_in place item db within_items = record {
   front = sym (append-nil db.front);
   items = λ n other _ at. stands_alone (insert db.items place item) (number_with_one_more place n) false other [] refl
@@ -507,7 +511,7 @@ moved_entry-stays key_base db key place accepted =
 -- ---- all edits
 
 removal : (test : Tree → Bool) (db : Reading) →
-    KeepsItems (is_first test db.items) (λ n. false) (number_with_one_less (number_of_first test db.items)) db (without_first test db.front db.items)
+    KeepsItems (is_first test db.items) (λ n. false) (number_with_one_less (number_of_first test db.items)) (joined (is_first test db.items) db) db (without_first test db.front db.items)
 removal test db = record {
   front = gained_front test db.front db.items;
   items = λ n item stays at. removed_item test db n item stays at;
@@ -515,7 +519,7 @@ removal test db = record {
 }
 
 removal_and_place : (db : Reading) (key : Text) (place : ℕ) (it : IsMove key place db) →
-    KeepsItems (is_first (is_entry key) db.items) (λ n. false) (λ n. number_with_one_more place (number_with_one_less (number_of_first (is_entry key) db.items) n)) db
+    KeepsItems (is_first (is_entry key) db.items) (λ n. false) (λ n. number_with_one_more place (number_with_one_less (number_of_first (is_entry key) db.items) n)) (joined (is_first (is_entry key) db.items) db) db
     (with_item place (in_line it.moved.tree) (remove_entry key db))
 removal_and_place db key place it = record {
   front = gained_front (is_entry key) db.front db.items;
@@ -529,6 +533,39 @@ removal_and_place db key place it = record {
       (removal-order (is_entry key) db.items n m p q h);
 }
 
+-- ---- a definition put in
+
+put_at : (tree : Tree) (place : ℕ) (items : List Item) (n : ℕ) (item : Item) → slice_get items n ≡ Some item →
+    StandsAt (put_after place tree items) (number_with_one_more place n) false item.tree (if suc n == place then line_end else item.trail)
+put_at tree place [] n item at = absurd (none-some item at)
+put_at tree zero (first ∷ items) n item at = record {
+  item = item;
+  at = at;
+  trail_is = sym (cond-false (suc n == zero) line_end item.trail (suc-zero n));
+  tree_is = λ _. refl;
+}
+put_at tree (suc zero) (first ∷ items) zero item at = record {
+  item = in_line first.tree;
+  at = refl;
+  trail_is = sym (cond-true (suc zero == suc zero) line_end item.trail (eq-eqb (suc zero) (suc zero) refl));
+  tree_is = λ _. ap (λ (i : Item). i.tree) (same_Some first item at);
+}
+put_at tree (suc zero) (first ∷ items) (suc n) item at = record {
+  item = item;
+  at = at;
+  trail_is = sym (cond-false (suc (suc n) == suc zero) line_end item.trail (ne_eqb (suc (suc n)) (suc zero) (omega arith)));
+  tree_is = λ _. refl;
+}
+put_at tree (suc (suc k)) (first ∷ items) zero item at = let is = same_Some first item at in record {
+  item = first;
+  at = refl;
+  trail_is = ap (λ (i : Item). i.trail) is ∙ sym (cond-false (suc zero == suc (suc k)) line_end item.trail (ne_eqb (suc zero) (suc (suc k)) (omega arith)));
+  tree_is = λ _. ap (λ (i : Item). i.tree) is;
+}
+put_at tree (suc (suc k)) (first ∷ items) (suc n) item at =
+    let rest = put_at tree (suc k) items n item at in
+    record { item = rest.item; at = rest.at; trail_is = rest.trail_is ∙ sym (ap (λ b. if b then line_end else item.trail) (eq-suc (suc n) (suc k))); tree_is = rest.tree_is }
+
 pub untouched_items-stay : untouched_items_stay
 untouched_items-stay key_base db (SetField key name value) accepted =
     in_place (is_changed key_base db (SetField key name value)) db (edited key_base db (SetField key name value)) refl
@@ -540,7 +577,7 @@ untouched_items-stay key_base db (AddEntry place new) accepted = let high = acce
 untouched_items-stay key_base db (RemoveEntry key) accepted = removal (is_entry key) db
 untouched_items-stay key_base db (MoveEntry key place) accepted =
     let it = move_of key_base db key place accepted in
-    subst (λ (new : Reading). KeepsItems (is_first (is_entry key) db.items) (λ n. false) (λ n. number_with_one_more place (number_with_one_less (number_of_first (is_entry key) db.items) n)) db new)
+    subst (λ (new : Reading). KeepsItems (is_first (is_entry key) db.items) (λ n. false) (λ n. number_with_one_more place (number_with_one_less (number_of_first (is_entry key) db.items) n)) (joined (is_first (is_entry key) db.items) db) db new)
     (sym (moved-is key_base db key place it)) (removal_and_place db key place it)
 untouched_items-stay key_base db (RenameKey from to) accepted =
     in_place (is_changed key_base db (RenameKey from to)) db (edited key_base db (RenameKey from to)) refl
@@ -582,3 +619,11 @@ untouched_items-stay key_base db (RenameField from to None) accepted =
 untouched_items-stay key_base db (RenameField from to (Some key)) accepted =
     in_place (is_changed key_base db (RenameField from to (Some key))) db (edited key_base db (RenameField from to (Some key))) refl
     (λ n item at. changed_at (is_entry key) (of_entry (entry_renamed from to)) db.items n item at)
+untouched_items-stay key_base db (DefineMacro name value) accepted = record {
+  front = sym (append-nil db.front);
+  items = λ n item _ at. put_at (DefinitionTree (definition_as name value)) (definitions_end db.items) db.items n item at;
+  order = λ n m _ _ h _. more-order (definitions_end db.items) n m h;
+}
+untouched_items-stay key_base db (SetMacro name value) accepted =
+    in_place (is_changed key_base db (SetMacro name value)) db (edited key_base db (SetMacro name value)) refl
+    (λ n item at. changed_at (defines name) (definition_to value) db.items n item at)

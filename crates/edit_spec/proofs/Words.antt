@@ -21,8 +21,8 @@ unfoldable pub use Rattle.bib_spec.specs.Texts.{field_text, months}
 pub use Rattle.bib_spec.specs.Tree.{Assignment, Brace, Braced, CommentTree, Definition, DefinitionTree, Delimiter, Digits, Entry, EntryTree, IsEntry, IsLink, IsPart, IsRow, IsSpace, IsTree, IsValue, Link, Macro, Part, Preamble, PreambleTree, Quoted, Row, Tree, Value, close_byte, is_comment, is_type}
 pub use Rattle.bib_spec.specs.Tree.{last_comma_bytes, row_bytes, tree_bytes, value_bytes}
 pub use Rattle.edit_spec.specs.EditChunks.{entry_chunks, items_chunks, kept_items, kept_rows, pieces_of, token}
-pub use Rattle.edit_spec.specs.Edits.{AddEntry, AddMany, Ambiguous, BadKey, BadName, BadPosition, BadValue, DropField, Edit, FileTooLong, HasCleanTexts, InlineMacro, IntroduceMacro, IsAccepted, KeyInUse, MoveEntry, NameInUse, NewEntry, NotFound, Referred, Refuses, RegenerateKeys, RemoveEntry, SetType, UndefineMacro, RenameField}
-pub use Rattle.edit_spec.specs.Edits.{RenameKey, RenameMacro, SetField, TextTooLong, WouldMerge, add_entry, add_many, assignment_with, changed, defines, definition_of, edited, entry_of, entry_with_field, entry_without_field, from_first, holders, in_braces, in_line, inline_macro, introduce_macro}
+pub use Rattle.edit_spec.specs.Edits.{AddEntry, AddMany, Ambiguous, BadKey, BadName, BadPosition, BadValue, DropField, Edit, FileTooLong, HasCleanTexts, InlineMacro, IntroduceMacro, IsAccepted, KeyInUse, MoveEntry, NameInUse, NewEntry, NotFound, Referred, Refuses, RegenerateKeys, RemoveEntry, SetType, UndefineMacro, RenameField, DefineMacro, SetMacro}
+pub use Rattle.edit_spec.specs.Edits.{RenameKey, RenameMacro, SetField, TextTooLong, WouldMerge, add_entry, add_many, assignment_with, changed, defines, definition_as, definition_of, edited, entry_of, entry_with_field, entry_without_field, from_first, holders, in_braces, in_line, inline_macro, introduce_macro}
 pub use Rattle.edit_spec.specs.Edits.{introduced, is_entry, item_of, item_with, items_with, items_with_keys, key_for, leaving, link_with, name_renamed, new_row, next_number, of_entry, part_introduced, regenerate_keys, remove_entry, rename_macro, row_before, row_to, row_with, text_of_macro}
 pub use Rattle.edit_spec.specs.Edits.{tree_with, tree_with_keys, use_inlined, use_renamed, uses_inlined, value_with, with_crossref, with_field, with_first_tree, with_item, with_keys, with_value, without_field, without_first}
 pub use Rattle.edit_spec.specs.Examples.{author_year, one_field}

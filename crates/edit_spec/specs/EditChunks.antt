@@ -1,17 +1,17 @@
 -- Which bytes of the file each edit keeps, and which it replaces. (dialect)
-use Rattle.std.specs.Prelude.{ℕ, Bool, List, [], ◌∷◌, ◌++◌, Option, Some, None, option_map, option_and_then, take, drop, insert, if◌then◌else◌, find, map, scan, slice_get}
+use Rattle.std.specs.Prelude.{ℕ, zero, suc, Bool, List, [], ◌∷◌, ◌++◌, Option, Some, None, option_map, option_and_then, take, drop, insert, if◌then◌else◌, find, map, scan, slice_get}
 use Rattle.std.specs.List.{flat_map}
 use Rattle.std.specs.Option.{option_map_or}
 use Rattle.bib_spec.specs.Bytes.{hash, comma, equals_sign, at_sign}
 use Rattle.bib_spec.specs.Text.{Text, same}
 use Rattle.bib_spec.specs.Tree.{Part, Link, Value, Assignment, Row, Entry, Tree, CommentTree, DefinitionTree, PreambleTree, EntryTree, part_bytes, value_bytes, row_bytes, open_byte, close_byte, head_bytes, opening_bytes, after_key_bytes, last_comma_bytes, tree_bytes}
 use Rattle.bib_spec.specs.Reading.{Item, Reading, item_bytes}
-use Rattle.bib_spec.specs.Texts.{row_start}
+use Rattle.bib_spec.specs.Texts.{row_start, bytes_before_value}
 use Rattle.bib_spec.specs.Records.{EntryTexts, Record, entries_of, crossref, entry_named, target}
 use Rattle.bib_spec.specs.Pieces.{Piece, Chunk, Kept, Replaced, pieces_of_chunks}
 use Rattle.bib_spec.specs.MadeKeys.{new_keys}
 use Rattle.part_spec.specs.Parts.{holds, any_part}
-use Rattle.edit_spec.specs.Edits.{NewEntry, Edit, SetField, DropField, AddEntry, RemoveEntry, MoveEntry, RenameKey, RenameMacro, InlineMacro, IntroduceMacro, RegenerateKeys, AddMany, SetType, UndefineMacro, RenameField, leaving, defines, is_entry, new_row, item_of, in_line, in_braces, next_number, key_for, name_renamed, use_renamed, use_inlined, text_of_macro, definition_of, part_introduced}
+use Rattle.edit_spec.specs.Edits.{NewEntry, Edit, SetField, DropField, AddEntry, RemoveEntry, MoveEntry, RenameKey, RenameMacro, InlineMacro, IntroduceMacro, RegenerateKeys, AddMany, SetType, UndefineMacro, RenameField, DefineMacro, SetMacro, leaving, defines, is_entry, new_row, line_end, item_of, in_line, in_braces, next_number, key_for, name_renamed, use_renamed, use_inlined, text_of_macro, definition_as, definition_of, part_introduced, definitions_end}
 
 -- ---- trees
 
@@ -150,6 +150,16 @@ names_replaced from to e = entry_chunks (Kept e.key) (Kept e.space_after_key ∷
 abbrev pub each_entry_as : (Entry → List Chunk) → Item → List Chunk
 each_entry_as change item = entry_body change item.tree ++ Kept item.trail ∷ []
 
+-- ---- values of macros
+
+-- a definition in chunks, where its value is replaced; other items are kept
+abbrev pub definition_chunks : Value → Tree → List Chunk
+definition_chunks value (DefinitionTree d) =
+    Kept (opening_bytes d.opening ++ bytes_before_value d.assignment)
+    ∷ Replaced (value_bytes d.assignment.value) (value_bytes value)
+    ∷ Kept (d.assignment.space_after ++ close_byte d.opening.delimiter ∷ []) ∷ []
+definition_chunks value other = Kept (tree_bytes other) ∷ []
+
 -- ---- types
 
 -- an entry in chunks, where its type is replaced
@@ -198,6 +208,14 @@ groups_without test (item ∷ items) =
 abbrev pub inserted : Item → List Chunk
 inserted item = Replaced [] (item_bytes item) ∷ []
 
+-- the items in chunks, with this tree put in as `put_after` does
+abbrev pub chunks_after : ℕ → Tree → List Item → List Chunk
+chunks_after zero tree items = inserted (in_line tree) ++ kept_items items
+chunks_after (suc n) tree [] = inserted (in_line tree)
+chunks_after (suc zero) tree (item ∷ items) =
+    Kept (tree_bytes item.tree) ∷ Replaced [] (line_end ++ tree_bytes tree) ∷ Kept item.trail ∷ kept_items items
+chunks_after (suc (suc n)) tree (item ∷ items) = kept_item item ∷ chunks_after (suc n) tree items
+
 -- the entry is taken out, and put in again at this position among the other items
 abbrev pub moved : Text → ℕ → List Item → Item → List Chunk
 moved key position items item =
@@ -235,6 +253,9 @@ changed_items key_base db (SetType key kind_name) = chunks_from_first (is_entry 
 changed_items key_base db (UndefineMacro name) = chunks_from_first (defines name) without_body db.items
 changed_items key_base db (RenameField from to None) = flat_map (each_entry_as (names_replaced from to)) db.items
 changed_items key_base db (RenameField from to (Some key)) = chunks_from_first (is_entry key) (entry_as (names_replaced from to)) db.items
+changed_items key_base db (DefineMacro name value) = chunks_after (definitions_end db.items) (DefinitionTree (definition_as name value)) db.items
+changed_items key_base db (SetMacro name value) =
+    chunks_from_first (defines name) (λ item items. body_and_rest (definition_chunks value item.tree) item items) db.items
 
 -- the file in chunks, as the edit keeps and replaces them
 abbrev pub chunks : (Record → Text) → Reading → Edit → List Chunk

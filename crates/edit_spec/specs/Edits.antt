@@ -1,5 +1,5 @@
 -- What each edit makes of a database, and when it is refused.
-use Rattle.std.specs.Prelude.{◌≡◌, ◌<◌, ◌⊎◌, ℕ, suc, ◌-◌, Bool, true, false, not, ◌&&◌, ◌||◌, ◌==◌, nat_lt, List, [], ◌∷◌, ◌++◌, Option, Some, None, is_some, unwrap_or, length, insert, if◌then◌else◌, bytes_eq, codes, map, find, scan, count_by, option_and_then, slice_get, All}
+use Rattle.std.specs.Prelude.{◌≡◌, ◌<◌, ◌⊎◌, ℕ, zero, suc, ◌-◌, Bool, true, false, not, ◌&&◌, ◌||◌, ◌==◌, nat_lt, List, [], ◌∷◌, ◌++◌, Option, Some, None, is_some, unwrap_or, length, insert, if◌then◌else◌, bytes_eq, codes, map, find, scan, count_by, option_and_then, slice_get, All}
 use Rattle.std.specs.List.{flat_map, list_any, list_all}
 use Rattle.std.specs.Option.{option_map_or}
 use Rattle.bib_spec.specs.Bytes.{name_limit, file_limit, close_paren}
@@ -50,6 +50,10 @@ pub data Edit : Type 0 where
   UndefineMacro : Text → Edit
   -- each field of the first name gets the second name, in the entry that the key names, or in every entry
   RenameField : Text → Text → Option Text → Edit
+  -- a macro that has no definition gets one: name, value
+  DefineMacro : Text → Value → Edit
+  -- the definition of the macro gets this value: name, value
+  SetMacro : Text → Value → Edit
 
 -- The value has these bytes, and it is one of the grammar if any value with these bytes is. A caller gives bytes, and
 -- whether they are a value is decided together with all other reasons to refuse.
@@ -402,17 +406,21 @@ inline_macro name db =
 abbrev pub undefine_macro : Text → Reading → Reading
 undefine_macro name db = without_first (defines name) db.front db.items
 
--- `@string{name = {text}}`
-abbrev pub definition_of : Text → Text → Definition
-definition_of name text = record {
+-- `@string{name = value}`
+abbrev pub definition_as : Text → Value → Definition
+definition_as name value = record {
   opening = record {
     head = record { space_before_type = []; type_name = codes "string" };
     space_before_delimiter = [];
     delimiter = Brace;
     space_after = [];
   };
-  assignment = record { name = name; space_before_equals = codes " "; space_before_value = codes " "; value = in_braces text; space_after = [] };
+  assignment = record { name = name; space_before_equals = codes " "; space_before_value = codes " "; value = value; space_after = [] };
 }
+
+-- `@string{name = {text}}`
+abbrev pub definition_of : Text → Text → Definition
+definition_of name text = definition_as name (in_braces text)
 
 -- the change of a part: a part that is the text becomes a use of the macro
 abbrev pub part_introduced : Text → Text → Part → Option Part
@@ -425,6 +433,42 @@ introduced name text items = in_line (DefinitionTree (definition_of name text)) 
 -- the definition is put before the first item that has such a part
 abbrev pub introduce_macro : Text → Text → Reading → Reading
 introduce_macro name text db = record db { items = from_first (any_part (holds text)) (introduced name text) db.items }
+
+-- how many items there are up to the last definition before the first entry, given how many there are of the items after this one
+abbrev pub definitions_end_with : Tree → ℕ → ℕ
+definitions_end_with (EntryTree e) n = 0
+definitions_end_with (DefinitionTree d) n = suc n
+definitions_end_with other zero = 0
+definitions_end_with other (suc n) = suc (suc n)
+
+-- how many items there are up to the last definition before the first entry; 0 if there is no such definition
+abbrev pub definitions_end : List Item → ℕ
+definitions_end [] = 0
+definitions_end (item ∷ items) = definitions_end_with item.tree (definitions_end items)
+
+-- The items with this tree put in, in a line of its own. If n is 0, the tree comes before the first item; else directly after
+-- the body of the last of the first n items, and the text that was there now follows the tree.
+abbrev pub put_after : ℕ → Tree → List Item → List Item
+put_after zero tree items = in_line tree ∷ items
+put_after (suc n) tree [] = in_line tree ∷ []
+put_after (suc zero) tree (item ∷ items) = in_line item.tree ∷ record { tree = tree; trail = item.trail } ∷ items
+put_after (suc (suc n)) tree (item ∷ items) = item ∷ put_after (suc n) tree items
+
+-- the definition is put after the last definition before the first entry, or else before the first item
+abbrev pub define_macro : Text → Value → Reading → Reading
+define_macro name value db =
+    record db { items = put_after (definitions_end db.items) (DefinitionTree (definition_as name value)) db.items }
+
+-- a definition with another value
+abbrev pub definition_to : Value → Tree → Tree
+definition_to value (DefinitionTree d) = DefinitionTree (record d { assignment = record d.assignment { value = value } })
+definition_to value (CommentTree h) = CommentTree h
+definition_to value (PreambleTree p) = PreambleTree p
+definition_to value (EntryTree e) = EntryTree e
+
+-- the first definition of the macro has this value
+abbrev pub set_macro : Text → Value → Reading → Reading
+set_macro name value db = record db { items = from_first (defines name) (with_first_tree (definition_to value)) db.items }
 
 -- ---- what an edit makes
 
@@ -444,6 +488,8 @@ edited key_base db (AddMany news) = add_many news db
 edited key_base db (SetType key kind_name) = set_type key kind_name db
 edited key_base db (UndefineMacro name) = undefine_macro name db
 edited key_base db (RenameField from to key) = rename_field from to key db
+edited key_base db (DefineMacro name value) = define_macro name value db
+edited key_base db (SetMacro name value) = set_macro name value db
 
 -- ---- what an edit is given
 
@@ -473,6 +519,8 @@ given_names (InlineMacro name) = name ∷ []
 given_names (IntroduceMacro name text) = name ∷ []
 given_names (UndefineMacro name) = name ∷ []
 given_names (RenameField from to key) = from ∷ to ∷ []
+given_names (DefineMacro name value) = name ∷ []
+given_names (SetMacro name value) = name ∷ []
 given_names other = []
 
 -- no `crossref` gets another name, and no field the name `crossref`: parents would come or go
@@ -493,6 +541,8 @@ given_values (SetField key name value) = value ∷ []
 given_values (AddEntry position new) = field_values new
 given_values (AddMany news) = flat_map field_values news
 given_values (IntroduceMacro name text) = in_braces text ∷ []
+given_values (DefineMacro name value) = value ∷ []
+given_values (SetMacro name value) = value ∷ []
 given_values other = []
 
 -- ---- what an edit addresses
@@ -606,6 +656,7 @@ IsMissing db (SetType key kind_name) = holders key db ≡ 0
 IsMissing db (UndefineMacro name) = definitions name db ≡ 0
 IsMissing db (RenameField from to None) = list_any (has_field from) (entries_of db) ≡ false
 IsMissing db (RenameField from to (Some key)) = fields_named key from db ≡ 0
+IsMissing db (SetMacro name value) = definitions name db ≡ 0
 IsMissing db other = ⊥
 
 -- what the edit addresses is there twice, or a new entry has a field twice, or an entry would have a renamed field twice
@@ -625,6 +676,7 @@ IsAmbiguous db (RenameField from to None) = list_any (would_repeat from to) (ent
 IsAmbiguous db (RenameField from to (Some key)) =
     (1 < holders key db)
     ⊎ (option_map_or (would_repeat from to) (option_and_then (slice_get (entries_of db)) (entry_named (entries_of db) key)) false ≡ true)
+IsAmbiguous db (SetMacro name value) = 1 < definitions name db
 IsAmbiguous db other = ⊥
 
 -- The new key is the key of another entry or of another new entry, or the text of a dangling crossref. That last is a reason
@@ -637,10 +689,12 @@ IsKeyInUse db (RenameKey from to) =
     (list_any (λ key. same to key && not (is_named from key)) (keys_of (entries_of db)) || list_any (same to) (dangling_texts (entries_of db))) ≡ true
 IsKeyInUse db other = ⊥
 
--- the new name of a macro is in use; a change of case alone is no new name
+-- The new name of a macro is in use; a change of case alone is no new name. A definition may give a text to a name that is used
+-- or that is a month's.
 abbrev pub IsNameInUse : Reading → Edit → Type 0
 IsNameInUse db (RenameMacro from to) = (not (same to from) && is_in_use to db.items) ≡ true
 IsNameInUse db (IntroduceMacro name text) = is_in_use name db.items ≡ true
+IsNameInUse db (DefineMacro name value) = 0 < definitions name db
 IsNameInUse db other = ⊥
 
 -- The text that a removal joins would begin a command, or lengthen a comment's type name; or a closing parenthesis would

@@ -10,8 +10,9 @@ use Rattle.bib_spec.specs.Texts.{is_empty, words, field_text, seen}
 use Rattle.bib_spec.specs.Records.{Record, entries_of, preambles_of, keys_of, crossref_text, dangling_texts, is_repeated, target, parent, expanded, listed, unknown}
 use Rattle.bib_spec.specs.Pieces.{Piece}
 use Rattle.bib_spec.specs.MadeKeys.{free_key, IsKeyBase}
-use Rattle.edit_spec.specs.Edits.{NewEntry, Edit, SetField, DropField, AddEntry, RemoveEntry, MoveEntry, RenameKey, RenameMacro, InlineMacro, IntroduceMacro, RegenerateKeys, AddMany, edited, Refuses, IsAccepted, BadKey, BadName, BadValue, BadPosition, NotFound, Ambiguous, KeyInUse, NameInUse, Referred, WouldMerge}
+use Rattle.edit_spec.specs.Edits.{NewEntry, Edit, SetField, DropField, AddEntry, RemoveEntry, MoveEntry, RenameKey, RenameMacro, InlineMacro, IntroduceMacro, RegenerateKeys, AddMany, DefineMacro, SetMacro, edited, Refuses, IsAccepted, BadKey, BadName, BadValue, BadPosition, NotFound, Ambiguous, KeyInUse, NameInUse, Referred, WouldMerge}
 use Rattle.edit_spec.specs.EditChunks.{pieces_of}
+use Rattle.edit_spec.specs.Laws.{dependents}
 
 -- ---- writing small files
 
@@ -66,6 +67,10 @@ string name value = record {
   });
   trail = [];
 }
+
+-- an item with this text after it
+abbrev pub with_trail : Text → Item → Item
+with_trail trail item = record item { trail = trail }
 
 -- the file that has these items and nothing before them
 abbrev pub file : List Item → Reading
@@ -185,6 +190,39 @@ pub record TextGetsName : Type 0 where
   pub pieces : map (λ p. p.place) (pieces same_text_twice (IntroduceMacro (codes "m") (codes "x"))) ≡ 0 ∷ 13 ∷ 19 ∷ []
   pub month : Refuses author_year NameInUse same_text_twice (IntroduceMacro (codes "may") (codes "x"))
   pub no_part : Refuses author_year NotFound same_text_twice (IntroduceMacro (codes "m") (codes "y"))
+
+-- two macros, and a remark before the first entry, which uses the second
+abbrev pub with_remark : Reading
+with_remark = file (
+    string (codes "a") (only (Braced (codes "A")))
+    ∷ with_trail (codes "\n\n% first\n") (string (codes "b") (both (Macro (codes "a")) (Braced (codes "B"))))
+    ∷ misc (codes "k") (tight (codes "t") (only (Macro (codes "b"))) ∷ tight (codes "u") (only (Braced (codes "U"))) ∷ []) ∷ [])
+
+-- A definition is put after the last definition before the first entry, in a line of its own: the remark stays at its entry. If
+-- there is no such definition, it comes before the first item, or at the end of a file without items. A name that has a definition
+-- is refused, and a month is none.
+pub record DefinitionIsAdded : Type 0 where
+  pub bytes : bytes_of with_remark ≡ codes "@string{a={A}}@string{b=a # {B}}\n\n% first\n@misc{k,t=b,u={U}}"
+  pub added : file_after with_remark (DefineMacro (codes "c") (only (Quoted (codes "C"))))
+      ≡ codes "@string{a={A}}@string{b=a # {B}}\n@string{c = \"C\"}\n\n% first\n@misc{k,t=b,u={U}}"
+  pub piece : pieces with_remark (DefineMacro (codes "c") (only (Quoted (codes "C")))) ≡ record { place = 32; old = []; new = codes "\n@string{c = \"C\"}" } ∷ []
+  pub before_entry : file_after defined_twice (DefineMacro (codes "q") (only (Digits (codes "1"))))
+      ≡ codes "@string{p={A}}\n@string{q = 1}@misc{a,t=p}@string{p={B}}@misc{b,t=p}"
+  pub first : file_after same_text_twice (DefineMacro (codes "q") (only (Digits (codes "1")))) ≡ codes "@string{q = 1}\n@misc{a, t = {x} # \"x\"}"
+  pub no_item : file_after (record { front = codes "% x\n"; items = [] }) (DefineMacro (codes "q") (only (Digits (codes "1")))) ≡ codes "% x\n@string{q = 1}\n"
+  pub month : file_after (file []) (DefineMacro (codes "may") (only (Digits (codes "5")))) ≡ codes "@string{may = 5}\n"
+  pub defined : Refuses author_year NameInUse defined_twice (DefineMacro (codes "P") (only (Digits (codes "1"))))
+
+-- Another value of a macro changes the texts of what uses it, also through another macro, and no others.
+pub record MacroGetsValue : Type 0 where
+  pub set : file_after with_remark (SetMacro (codes "A") (both (Digits (codes "1")) (Braced (codes "2"))))
+      ≡ codes "@string{a=1 # {2}}@string{b=a # {B}}\n\n% first\n@misc{k,t=b,u={U}}"
+  pub piece : pieces with_remark (SetMacro (codes "A") (only (Digits (codes "1")))) ≡ record { place = 10; old = codes "{A}"; new = codes "1" } ∷ []
+  pub old_texts : texts_at 1 with_remark 0 ≡ codes "AB" ∷ codes "U" ∷ []
+  pub new_texts : texts_at 1 (edited author_year with_remark (SetMacro (codes "A") (only (Digits (codes "1"))))) 0 ≡ codes "1B" ∷ codes "U" ∷ []
+  pub dependents_are : dependents (codes "a" ∷ []) with_remark.items ≡ codes "b" ∷ codes "a" ∷ []
+  pub twice : Refuses author_year Ambiguous defined_twice (SetMacro (codes "p") (only (Digits (codes "1"))))
+  pub month : Refuses author_year NotFound with_remark (SetMacro (codes "may") (only (Digits (codes "5"))))
 
 -- a use of `m` before its definition, and one after it
 abbrev pub used_before : Reading
@@ -594,3 +632,5 @@ pub record EditsAreAccepted : Type 0 where
   pub macro_introduced : IsAccepted author_year same_text_twice (IntroduceMacro (codes "m") (codes "x"))
   pub keys_made : IsAccepted author_year swapped (RegenerateKeys 1)
   pub many_added : IsAccepted author_year family (AddMany (z ∷ []))
+  pub macro_defined : IsAccepted author_year one_field (DefineMacro (codes "m") (only (Digits (codes "2"))))
+  pub macro_set : IsAccepted author_year with_remark (SetMacro (codes "a") (only (Digits (codes "2"))))

@@ -1,16 +1,16 @@
 -- What the edits keep: each law is about every database and every accepted edit.
-use Rattle.std.specs.Prelude.{◌≡◌, ◌<◌, ◌≢◌, ℕ, suc, Bool, true, false, List, [], Option, Some, None, is_some, unwrap_or, option_map, option_and_then, slice_get, map, length, take, not, ◌==◌, ◌∷◌, filter, if◌then◌else◌}
-use Rattle.std.specs.List.{list_any, list_all}
+use Rattle.std.specs.Prelude.{◌≡◌, ◌<◌, ◌≤◌, ◌≢◌, ℕ, suc, Bool, true, false, List, [], Option, Some, None, is_some, unwrap_or, option_map, option_and_then, slice_get, map, length, take, find, not, ◌==◌, ◌∷◌, ◌++◌, filter, if◌then◌else◌}
+use Rattle.std.specs.List.{flat_map, list_any, list_all}
 use Rattle.std.specs.Option.{option_map_or}
 use Rattle.bib_spec.specs.Text.{Text, folded, same, IsBalanced}
-use Rattle.bib_spec.specs.Tree.{Definition, Tree, DefinitionTree}
+use Rattle.bib_spec.specs.Tree.{Part, Value, Definition, Tree, DefinitionTree, PreambleTree, EntryTree, value_bytes}
 use Rattle.bib_spec.specs.Reading.{Item, Reading, Reads, bytes_of}
 use Rattle.bib_spec.specs.Texts.{months, macros_in, macros_at, raw_text, seen}
-use Rattle.bib_spec.specs.Records.{Field, EntryTexts, Record, RecordField, entries_of, preambles_of, keys_of, entry_named, parent, expanded, cites_all, listed, unknown}
+use Rattle.bib_spec.specs.Records.{Field, EntryTexts, Record, RecordField, entries_of, preambles_of, keys_of, entry_named, parent, ancestors, expanded, cites_all, listed, unknown}
 use Rattle.bib_spec.specs.Pieces.{Fit, applied, old_of, new_of}
 use Rattle.bib_spec.specs.MadeKeys.{new_keys, IsKeyBase}
-use Rattle.part_spec.specs.Parts.{holds, any_part}
-use Rattle.edit_spec.specs.Edits.{Edit, RenameKey, RenameMacro, InlineMacro, IntroduceMacro, RegenerateKeys, SetType, UndefineMacro, RenameField, changed, name_renamed, defines, key_for, edited, IsAccepted}
+use Rattle.part_spec.specs.Parts.{uses, holds, any_part, have_part}
+use Rattle.edit_spec.specs.Edits.{Edit, RenameKey, RenameMacro, InlineMacro, IntroduceMacro, RegenerateKeys, SetType, UndefineMacro, RenameField, DefineMacro, SetMacro, changed, name_renamed, defines, key_for, definitions_end, edited, IsAccepted}
 use Rattle.edit_spec.specs.EditChunks.{chunks, pieces_of}
 
 -- ---- macros
@@ -226,6 +226,22 @@ undefine_macro_keeps = (key_base : Record → Text) (db : Reading) (name : Text)
     let new : Reading = edited key_base db (UndefineMacro name) in
     KeepsEntries no_new_key db new × KeepsCitations db new × SeesUndefined name db new
 
+-- Up to the new definition all names stand for what they stood for. From there on each item's number is one more, and all
+-- names except the new one stand for what they stood for.
+pub record SeesDefined (name : Text) (place : ℕ) (old new : Reading) : Type 0 where
+  pub before : (n : ℕ) (other : Text) → n ≤ place → seen new n other ≡ seen old n other
+  pub after : (n : ℕ) (other : Text) → place ≤ n → same other name ≡ false → seen new (suc n) other ≡ seen old n other
+
+-- If nothing uses the macro that is defined, all that the database says is kept, except for the macro.
+abbrev pub KeepsIfUnused : Text → Reading → Reading → Type 0
+KeepsIfUnused name old new =
+    have_part (uses name) old.items ≡ false → KeepsEntries no_new_key old new × KeepsCitations old new × SeesDefined name (definitions_end old.items) old new
+
+-- Defining a macro that nothing uses keeps all that the database says, except for the macro.
+abbrev pub define_macro_keeps : Type 0
+define_macro_keeps = (key_base : Record → Text) (db : Reading) (name : Text) (value : Value) → IsAccepted key_base db (DefineMacro name value) →
+    KeepsIfUnused name db (edited key_base db (DefineMacro name value))
+
 -- Before the first item that holds the text all names stand for what they stood for. From that item on each item's number is
 -- one more, the new name stands for the text, and all other names stand for what they stood for.
 pub record SeesIntroduced (name text : Text) (old new : Reading) : Type 0 where
@@ -238,6 +254,69 @@ abbrev pub introduce_macro_keeps : Type 0
 introduce_macro_keeps = (key_base : Record → Text) (db : Reading) (name text : Text) → IsAccepted key_base db (IntroduceMacro name text) →
     let new : Reading = edited key_base db (IntroduceMacro name text) in
     KeepsEntries no_new_key db new × KeepsCitations db new × SeesIntroduced name text db new
+
+-- ---- values of macros
+
+-- the part is one of these names
+abbrev pub is_use_of : List Text → Part → Bool
+is_use_of names part = list_any (λ name. uses name part) names
+
+-- the names, and before them the name of this definition if its value uses one of them
+abbrev pub with_dependent : List Text → Tree → List Text
+with_dependent names (DefinitionTree d) =
+    if any_part (is_use_of names) (DefinitionTree d) then d.assignment.name ∷ names else names
+with_dependent names other = names
+
+-- the macros whose texts may change when the macro's does: these names, and, item by item, each macro whose definition uses one
+-- of the names so far
+abbrev pub dependents : List Text → List Item → List Text
+dependents names [] = names
+dependents names (item ∷ items) = dependents (with_dependent names item.tree) items
+
+-- whether the entry that an item is uses one of the names, or nothing for other items
+abbrev pub entry_uses : List Text → Tree → List Bool
+entry_uses names (EntryTree e) = any_part (is_use_of names) (EntryTree e) ∷ []
+entry_uses names other = []
+
+-- entry n uses one of the names
+abbrev pub is_user : List Text → Reading → ℕ → Bool
+is_user names db n = unwrap_or (slice_get (flat_map (λ item. entry_uses names item.tree) db.items) n) false
+
+-- the item is a preamble that uses one of the names
+abbrev pub preamble_uses : List Text → Tree → Bool
+preamble_uses names (PreambleTree p) = any_part (is_use_of names) (PreambleTree p)
+preamble_uses names other = false
+
+-- Each entry that uses none of the names says what it said. Its record at a depth is unchanged if no entry from which it inherits
+-- uses one of them either. All keys are unchanged, and so is what all other names stand for at each item.
+pub record KeepsAllButUsers (names : List Text) (old new : Reading) : Type 0 where
+  pub keys : keys_of (entries_of new) ≡ keys_of (entries_of old)
+  pub texts : (n : ℕ) → is_user names old n ≡ false → slice_get (entries_of new) n ≡ slice_get (entries_of old) n
+  pub records : (depth n : ℕ) → list_any (is_user names old) (n ∷ ancestors (entries_of old) depth n) ≡ false
+      → expanded depth (entries_of new) n ≡ expanded depth (entries_of old) n
+  pub preambles : list_any (λ item. preamble_uses names item.tree) old.items ≡ false → preambles_of new ≡ preambles_of old
+  pub macros : (n : ℕ) (other : Text) → list_any (same other) names ≡ false → seen new n other ≡ seen old n other
+
+-- Giving a macro another value keeps what all entries say that use neither the macro nor a macro that depends on it.
+abbrev pub set_macro_keeps : Type 0
+set_macro_keeps = (key_base : Record → Text) (db : Reading) (name : Text) (value : Value) → IsAccepted key_base db (SetMacro name value) →
+    KeepsAllButUsers (dependents (name ∷ []) db.items) db (edited key_base db (SetMacro name value))
+
+-- The file is the value of a definition of the macro with bytes before it and after it. Then the new value is between the same bytes.
+pub record ReplacesValue (name : Text) (value : Value) (old new : Reading) : Type 0 where
+  pub item : Item
+  pub found : find (λ item. defines name item.tree) old.items ≡ Some item
+  pub definition : Definition
+  pub is : item.tree ≡ DefinitionTree definition
+  pub bytes_before : Text
+  pub bytes_after : Text
+  pub old_file : bytes_of old ≡ bytes_before ++ (value_bytes definition.assignment.value ++ bytes_after)
+  pub new_file : bytes_of new ≡ bytes_before ++ (value_bytes value ++ bytes_after)
+
+-- Giving a macro another value replaces the value of its definition, and no other byte.
+abbrev pub set_macro_replaces_a_value : Type 0
+set_macro_replaces_a_value = (key_base : Record → Text) (db : Reading) (name : Text) (value : Value) → IsAccepted key_base db (SetMacro name value) →
+    ReplacesValue name value db (edited key_base db (SetMacro name value))
 
 -- ---- pieces
 

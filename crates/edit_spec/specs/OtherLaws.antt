@@ -8,7 +8,7 @@ use Rattle.bib_spec.specs.Reading.{Item, Reading}
 use Rattle.bib_spec.specs.MadeKeys.{new_keys}
 use Rattle.bib_spec.specs.Records.{EntryTexts, Record, entries_of, preambles_of, crossref, entry_named, target, parent, dangling_texts, expanded}
 use Rattle.part_spec.specs.Parts.{uses, holds, any_part}
-use Rattle.edit_spec.specs.Edits.{NewEntry, Edit, SetField, DropField, AddEntry, RemoveEntry, MoveEntry, RenameKey, RenameMacro, InlineMacro, IntroduceMacro, RegenerateKeys, AddMany, SetType, UndefineMacro, RenameField, given_keys, defines, is_entry, in_line, edited, IsAccepted}
+use Rattle.edit_spec.specs.Edits.{NewEntry, Edit, SetField, DropField, AddEntry, RemoveEntry, MoveEntry, RenameKey, RenameMacro, InlineMacro, IntroduceMacro, RegenerateKeys, AddMany, SetType, UndefineMacro, RenameField, DefineMacro, SetMacro, given_keys, defines, is_entry, line_end, in_line, definitions_end, edited, IsAccepted}
 use Rattle.edit_spec.specs.Laws.{is_after, is_reached}
 
 -- ---- numbers
@@ -141,6 +141,7 @@ is_changed key_base db (RegenerateKeys depth) n =
 is_changed key_base db (SetType key kind_name) n = is_first (is_entry key) db.items n
 is_changed key_base db (RenameField from to None) n = passes (has_row from) db.items n
 is_changed key_base db (RenameField from to (Some key)) n = is_first (is_entry key) db.items n
+is_changed key_base db (SetMacro name value) n = is_first (defines name) db.items n
 is_changed key_base db other n = false
 
 -- the number of item n afterwards, if it is not taken away
@@ -151,11 +152,17 @@ new_number db (MoveEntry key position) n = number_with_one_more position (number
 new_number db (InlineMacro name) n = number_with_one_less (number_of_first (defines name) db.items) n
 new_number db (UndefineMacro name) n = number_with_one_less (number_of_first (defines name) db.items) n
 new_number db (IntroduceMacro name text) n = number_with_one_more (number_of_first (any_part (holds text)) db.items) n
+new_number db (DefineMacro name value) n = number_with_one_more (definitions_end db.items) n
 new_number db other n = n
 
 -- the trail of item n if the edit takes that item away, else nothing
 abbrev pub gained : (ℕ → Bool) → List Item → ℕ → Text
 gained gone items n = if gone n then option_map_or (λ item. item.trail) (slice_get items n) [] else []
+
+-- the trail of item n afterwards: a new definition gets the trail of the item that it is put after, which keeps a line's end
+abbrev pub new_trail : Reading → Edit → ℕ → Text → Text
+new_trail db (DefineMacro name value) n trail = if suc n == definitions_end db.items then line_end else trail
+new_trail db other n trail = trail ++ gained (is_gone db other) db.items (suc n)
 
 -- item `n` exists, with this trail, and with this tree unless it is changed
 pub record StandsAt (items : List Item) (n : ℕ) (is_changed : Bool) (old : Tree) (trail : Text) : Type 0 where
@@ -165,18 +172,19 @@ pub record StandsAt (items : List Item) (n : ℕ) (is_changed : Bool) (old : Tre
   pub tree_is : is_changed ≡ false → item.tree ≡ old
 
 -- Each item that is not removed has its new number, in the old order, with its tree unless the edit changes that, and with
--- its trail. The trail of a removed item joins the trail before it, or the front.
-pub record KeepsItems (gone changed : ℕ → Bool) (number : ℕ → ℕ) (old new : Reading) : Type 0 where
+-- its trail. The trail of a removed item joins the trail before it, or the front. A definition that is put after an item gets
+-- the trail of that item.
+pub record KeepsItems (gone changed : ℕ → Bool) (number : ℕ → ℕ) (trail : ℕ → Text → Text) (old new : Reading) : Type 0 where
   pub front : new.front ≡ old.front ++ gained gone old.items 0
   pub items : (n : ℕ) (item : Item) → gone n ≡ false → slice_get old.items n ≡ Some item
-      → StandsAt new.items (number n) (changed n) item.tree (item.trail ++ gained gone old.items (suc n))
+      → StandsAt new.items (number n) (changed n) item.tree (trail n item.trail)
   pub order : (n m : ℕ) → gone n ≡ false → gone m ≡ false → n < m → m < length old.items → number n < number m
 
 -- An edit keeps each item that it neither changes, nor removes, nor moves. If keys are made, an entry is unchanged if it
 -- already has its made key and its crossref already names its target by the target's made key.
 abbrev pub untouched_items_stay : Type 0
 untouched_items_stay = (key_base : Record → Text) (db : Reading) (e : Edit) → IsAccepted key_base db e →
-    KeepsItems (is_gone db e) (is_changed key_base db e) (new_number db e) db (edited key_base db e)
+    KeepsItems (is_gone db e) (is_changed key_base db e) (new_number db e) (new_trail db e) db (edited key_base db e)
 
 -- A moved entry keeps its body, and gets a line of its own.
 abbrev pub moved_entry_stays : Type 0

@@ -1,6 +1,6 @@
 //! What the definitions say of small files, and what would go wrong without each condition of an edit.
 
-ghost use Rattle.edit_spec.specs.Examples.{MacroIsReadWhereItStands, MonthIsOverridden, MacroIsInlinedAsText, TextGetsName, UseBeforeDefinitionIsLeft, TextsAreJoined, FieldIsSetAndDropped, FirstCounts, EntriesAreAddedAndMoved, JoinedTextStaysText, TrailJoinsTextBefore, ParentIsCitedWithChildren, CrossrefsFindTargets, CrossrefOfPartsIsRenamed, RecordInheritsAlongChain, MadeKeysSwap, MadeKeysDiffer, MadeKeysReadTheChain, DanglingCrossrefFindsKey, KeyInUseTakesChildren, SpacedKeyLosesChildren, RepeatedKeyTakesChildren, RemovedParentLeavesChildren, AddedKeyTakesChildren, HighPlaceIsNotReached, KeyBaseIsNeeded, NameInUseGivesText, MacroDefinedTwiceHasTwoTexts, StarCitesAll, EditsAreAccepted};
+ghost use Rattle.edit_spec.specs.Examples.{MacroIsReadWhereItStands, MonthIsOverridden, MacroIsInlinedAsText, TextGetsName, DefinitionIsAdded, MacroGetsValue, UseBeforeDefinitionIsLeft, TextsAreJoined, FieldIsSetAndDropped, FirstCounts, EntriesAreAddedAndMoved, JoinedTextStaysText, TrailJoinsTextBefore, ParentIsCitedWithChildren, CrossrefsFindTargets, CrossrefOfPartsIsRenamed, RecordInheritsAlongChain, MadeKeysSwap, MadeKeysDiffer, MadeKeysReadTheChain, DanglingCrossrefFindsKey, KeyInUseTakesChildren, SpacedKeyLosesChildren, RepeatedKeyTakesChildren, RemovedParentLeavesChildren, AddedKeyTakesChildren, HighPlaceIsNotReached, KeyBaseIsNeeded, NameInUseGivesText, MacroDefinedTwiceHasTwoTexts, StarCitesAll, EditsAreAccepted};
 
 /// A use of a macro means the last definition before it; if there is none, it means the month of that name.
 pub fn a_macro_is_read_where_it_stands()
@@ -20,6 +20,16 @@ pub fn a_macro_is_inlined_as_text()
 /// A part in braces and one in quotes become uses of one macro.
 pub fn a_text_gets_a_name()
     ensures { TextGetsName }
+{}
+
+/// A definition is added in a line of its own, after the definitions before the first entry.
+pub fn a_definition_is_added()
+    ensures { DefinitionIsAdded }
+{}
+
+/// Another value of a macro changes the texts of its uses, also through another macro.
+pub fn a_macro_gets_a_value()
+    ensures { MacroGetsValue }
 {}
 
 /// A use before the definition means something else, so renaming the macro leaves it unchanged.

@@ -1,6 +1,6 @@
 //! Laws of the edits that rename: they keep all that a database says, except for the names.
 
-ghost use Rattle.edit_spec.specs.Laws.{rename_key_keeps, rename_macro_keeps, inline_macro_keeps, introduce_macro_keeps, undefine_macro_keeps, rename_field_keeps, renamed_fields_are_inherited, regenerate_keys_keeps, made_keys_differ, regenerating_again_changes_nothing};
+ghost use Rattle.edit_spec.specs.Laws.{rename_key_keeps, rename_macro_keeps, inline_macro_keeps, introduce_macro_keeps, undefine_macro_keeps, define_macro_keeps, set_macro_keeps, set_macro_replaces_a_value, rename_field_keeps, renamed_fields_are_inherited, regenerate_keys_keeps, made_keys_differ, regenerating_again_changes_nothing};
 
 /// Renaming a key keeps each record except for that key, each parent, each preamble, what each macro stands for, and each
 /// cited list.
@@ -24,6 +24,19 @@ pub fn inlining_a_macro_keeps_the_rest()
 /// what each other macro stands for.
 pub fn undefining_a_macro_keeps_the_rest()
     ensures { undefine_macro_keeps }
+{}
+
+/// Defining a macro that nothing uses keeps each record, each parent, each preamble, each cited list, and what each other macro
+/// stands for.
+pub fn defining_a_macro_keeps_the_rest()
+    ensures { define_macro_keeps }
+{}
+
+/// Giving a macro another value keeps each record whose fields use neither the macro nor a macro that depends on it. The value is
+/// replaced, and no other byte.
+pub fn setting_a_macro_keeps_the_rest()
+    ensures keeps { set_macro_keeps }
+    ensures replaces { set_macro_replaces_a_value }
 {}
 
 /// Renaming fields keeps each record except for these names, each parent, each preamble, what each macro stands for, and each

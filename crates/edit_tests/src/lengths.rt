@@ -11,6 +11,13 @@ use std::test::Fail;
 
 const FILE: &[u8] = b"@misc{a,t=1}";
 
+/// A text of 32 uses of a macro.
+const USING: &[u8] =
+    b"@string{m=1}@misc{a,t=m#m#m#m#m#m#m#m#m#m#m#m#m#m#m#m#m#m#m#m#m#m#m#m#m#m#m#m#m#m#m#m}";
+
+const UNDEFINED: &[u8] =
+    b"@misc{a,t=m#m#m#m#m#m#m#m#m#m#m#m#m#m#m#m#m#m#m#m#m#m#m#m#m#m#m#m#m#m#m#m}";
+
 /// A line that sets a field to digits.
 const DIGITS: Long = Long {
     before: b"set\ta\tt\t",
@@ -73,6 +80,82 @@ const LENGTHS: &[Course<'_>] = &[
         ],
     },
 ];
+
+const MACRO_LENGTHS: &[Course<'_>] = &[
+    Course {
+        name: "the value of a macro may make a text as long as the limit",
+        file: USING,
+        steps: &[
+            Step {
+                turn: Turn::Long(
+                    1,
+                    Long {
+                        before: b"set-macro\tm\t{",
+                        byte: b'x',
+                        count: 32_769,
+                        after: b"}",
+                    },
+                ),
+                refusal: 8,
+                file: Some(USING),
+                counts: None,
+            },
+            Step {
+                turn: Turn::Long(
+                    1,
+                    Long {
+                        before: b"set-macro\tm\t{",
+                        byte: b'x',
+                        count: 32_768,
+                        after: b"}",
+                    },
+                ),
+                refusal: 0,
+                file: None,
+                counts: Some((1, 0)),
+            },
+        ],
+    },
+    Course {
+        name: "a definition may make a text after it as long as the limit",
+        file: UNDEFINED,
+        steps: &[
+            Step {
+                turn: Turn::Long(
+                    1,
+                    Long {
+                        before: b"define\tm\t{",
+                        byte: b'x',
+                        count: 32_769,
+                        after: b"}",
+                    },
+                ),
+                refusal: 8,
+                file: Some(UNDEFINED),
+                counts: None,
+            },
+            Step {
+                turn: Turn::Long(
+                    1,
+                    Long {
+                        before: b"define\tm\t{",
+                        byte: b'x',
+                        count: 32_768,
+                        after: b"}",
+                    },
+                ),
+                refusal: 0,
+                file: None,
+                counts: Some((1, 0)),
+            },
+        ],
+    },
+];
+
+#[test]
+fn values_of_macros_have_limits(rt: HostRuntime) -> Result<(), Fail> {
+    all_come_out(rt.alloc(), MACRO_LENGTHS)
+}
 
 #[test]
 fn values_and_steps_have_limits(rt: HostRuntime) -> Result<(), Fail> {

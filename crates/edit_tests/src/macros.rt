@@ -1,4 +1,4 @@
-//! Macros that are renamed, inlined, introduced and undefined.
+//! Macros that are renamed, inlined, introduced, undefined, defined and given a value.
 
 use crate::rows::{Course, Row, Step, all_come_out, all_hold};
 use crate::turns::Turn;
@@ -170,6 +170,119 @@ const UNDEFINED: &[Row<'_>] = &[
     },
 ];
 
+const DEFINED: &[Row<'_>] = &[
+    Row {
+        name: "a definition comes after the last one before the first entry, in a line of its own",
+        file: DEFINING,
+        turn: Turn::Script(b"define\tn\tm # {b}"),
+        refusal: 0,
+        left: b"@string{l=1}\n@string(m=2)\n@string{n = m # {b}}\n\n% remark\n@misc{a,t=m}\n@string{k=3}\n",
+    },
+    Row {
+        name: "without a definition before the first entry it comes first",
+        file: b"x\n@misc{a}\n@string{m=1}",
+        turn: Turn::Script(b"define\tn\t2"),
+        refusal: 0,
+        left: b"x\n@string{n = 2}\n@misc{a}\n@string{m=1}",
+    },
+    Row {
+        name: "comments and preambles may be before the definitions and after them",
+        file: b"@comment{x}@preamble{{p}}@string{m=1}@preamble{{q}}@misc{a}",
+        turn: Turn::Script(b"define\tn\t2"),
+        refusal: 0,
+        left: b"@comment{x}@preamble{{p}}@string{m=1}\n@string{n = 2}@preamble{{q}}@misc{a}",
+    },
+    Row {
+        name: "in a file without entries it comes after the last definition",
+        file: b"@string{m=1}\n@comment{x}\n",
+        turn: Turn::Script(b"define\tn\t2"),
+        refusal: 0,
+        left: b"@string{m=1}\n@string{n = 2}\n@comment{x}\n",
+    },
+    Row {
+        name: "a file without items gets one at its end",
+        file: b"x\n",
+        turn: Turn::Script(b"define\tn\t{a} # 1"),
+        refusal: 0,
+        left: b"x\n@string{n = {a} # 1}\n",
+    },
+    Row {
+        name: "a month gets a definition",
+        file: DEFINING,
+        turn: Turn::Script(b"define\tjan\t{Jan.}"),
+        refusal: 0,
+        left: b"@string{l=1}\n@string(m=2)\n@string{jan = {Jan.}}\n\n% remark\n@misc{a,t=m}\n@string{k=3}\n",
+    },
+    Row {
+        name: "a name that has a definition, wherever that is, is refused",
+        file: DEFINING,
+        turn: Turn::Script(b"define\tK\t1"),
+        refusal: 38,
+        left: DEFINING,
+    },
+    Row {
+        name: "a definition has a name",
+        file: DEFINING,
+        turn: Turn::Script(b"define\t1\t{"),
+        refusal: 32,
+        left: DEFINING,
+    },
+    Row {
+        name: "a definition has a value",
+        file: DEFINING,
+        turn: Turn::Script(b"define\tk\t{"),
+        refusal: 33,
+        left: DEFINING,
+    },
+];
+
+const SET: &[Row<'_>] = &[
+    Row {
+        name: "the value of a definition gives way alone, in parentheses too",
+        file: DEFINING,
+        turn: Turn::Script(b"set-macro\tM\tl # {x}"),
+        refusal: 0,
+        left: b"@string{l=1}\n@string(m=l # {x})\n\n% remark\n@misc{a,t=m}\n@string{k=3}\n",
+    },
+    Row {
+        name: "a definition after the entries gets a value",
+        file: DEFINING,
+        turn: Turn::Script(b"set-macro\tk\t\"x\""),
+        refusal: 0,
+        left: b"@string{l=1}\n@string(m=2)\n\n% remark\n@misc{a,t=m}\n@string{k=\"x\"}\n",
+    },
+    Row {
+        name: "a month alone is no definition that gets a value",
+        file: DEFINING,
+        turn: Turn::Script(b"set-macro\tmay\t5"),
+        refusal: 35,
+        left: DEFINING,
+    },
+    Row {
+        name: "one of two definitions gets no value",
+        file: b"@string{m=1}@string{M=2}",
+        turn: Turn::Script(b"set-macro\tm\t3"),
+        refusal: 36,
+        left: b"@string{m=1}@string{M=2}",
+    },
+    Row {
+        name: "the name of a macro that gets a value is a name",
+        file: DEFINING,
+        turn: Turn::Script(b"set-macro\t{m}\t{"),
+        refusal: 32,
+        left: DEFINING,
+    },
+    Row {
+        name: "a macro gets a value, before it is sought",
+        file: DEFINING,
+        turn: Turn::Script(b"set-macro\tx\t1 #"),
+        refusal: 33,
+        left: DEFINING,
+    },
+];
+
+const DEFINING: &[u8] = b"@string{l=1}\n@string(m=2)\n\n% remark\n@misc{a,t=m}\n@string{k=3}\n";
+
 const USED: &[u8] = b"@misc{a,t=m}@string{m=1}@misc{b,t=m}";
 
 const INLINED_BESIDE: &[u8] = b"@string{m={x}}\n\n@misc{b,t=n}\n\n\n@misc{d,t={xy}}\n";
@@ -273,6 +386,16 @@ fn a_macro_is_introduced(rt: HostRuntime) -> Result<(), Fail> {
 #[test]
 fn a_macro_is_undefined(rt: HostRuntime) -> Result<(), Fail> {
     all_hold(rt.alloc(), UNDEFINED)
+}
+
+#[test]
+fn a_macro_is_defined(rt: HostRuntime) -> Result<(), Fail> {
+    all_hold(rt.alloc(), DEFINED)
+}
+
+#[test]
+fn a_macro_gets_a_value(rt: HostRuntime) -> Result<(), Fail> {
+    all_hold(rt.alloc(), SET)
 }
 
 #[test]

@@ -39,6 +39,18 @@ const EDITS: &[Planned] = &[
         pieces: &[(10, b"T", b"title"), (24, b"t", b"title")],
     },
     Planned {
+        name: "a definition is put after the last one before the first entry",
+        file: b"x@string{m=1} y@misc{a}@string{n=2}",
+        turn: Turn::Script(b"define\tk\t{b}"),
+        pieces: &[(13, b"", b"\n@string{k = {b}}")],
+    },
+    Planned {
+        name: "the value of a macro gives way alone",
+        file: b"x@string( m = 1 # n )@misc{a}",
+        turn: Turn::Script(b"set-macro\tM\t{b}"),
+        pieces: &[(14, b"1 # n", b"{b}")],
+    },
+    Planned {
         name: "a move is two pieces",
         file: b"@misc{a}\n@misc{b}\n",
         turn: Turn::Script(b"move\ta\t1"),

@@ -84,6 +84,7 @@ faults_of_inputs =
     ∷ (codes "62", codes "NoEnd")
     ∷ (codes "63", codes "EmptyType")
     ∷ (codes "64", codes "UnbalancedText")
+    ∷ (codes "65", codes "SkippedLine")
     ∷ (codes "71", codes "BadScript")
     ∷ []
 

@@ -203,7 +203,7 @@ pub(crate) fn faults_of_edits(word: &[u8]) -> Option<Page>
         return Some(Page {
             number: b"38",
             name: b"NameInUse",
-            text: b"The new name of a macro is that of a month, or the file defines or uses it already, so some text would change.\n`rename-macro` may change the case of a name.\n\n  $ printf '@string{m = 1}@misc{a, t = m}' > macro.bib\n  $ printf '%s\\t%s\\t%s\\n' rename-macro m jan | bibkeep edit macro.bib\n  applied 0\n  bibkeep: line 1: 38 NameInUse\n\nChoose a name that the file does not have.\n\n`insert` says 38 of a text that defines a macro that the file defines, even if both definitions say the same.\n\n  $ printf '@string{M = 1}@misc{x, t = m}' | bibkeep insert macro.bib\n  bibkeep: 38 NameInUse\n\nLeave the definition out of the text, if both say the same. Else give the macro another name in the text:\n`bibkeep edit entry.bib rename-macro M M2`.\n",
+            text: b"The new name of a macro is that of a month, or the file defines or uses it already, so some text would change.\n`rename-macro` may change the case of a name.\n\n  $ printf '@string{m = 1}@misc{a, t = m}' > macro.bib\n  $ printf '%s\\t%s\\t%s\\n' rename-macro m jan | bibkeep edit macro.bib\n  applied 0\n  bibkeep: line 1: 38 NameInUse\n\nChoose a name that the file does not have.\n\n`define` says 38 only of a macro that the file defines already. `set-macro` gives such a macro another value.\n\n  $ bibkeep edit macro.bib define M 2\n  applied 0\n  bibkeep: 38 NameInUse\n\n`insert` says 38 of a text that defines a macro that the file defines. A definition that says the same is left out, and not refused:\nits value is one text or number, the macro stands for just that where the text is put in, and only white space is behind it.\n\n  $ printf '@string{M = 2}@misc{x, t = m}' | bibkeep insert macro.bib\n  bibkeep: 38 NameInUse\n\nGive the macro another name in the text: `bibkeep edit entry.bib rename-macro M M2`. Or leave its definition out, if the entries shall\nuse that of the file.\n",
         });
     }
     if is_asked(word, b"39", b"Referred") {
@@ -316,6 +316,13 @@ pub(crate) fn faults_of_inputs(word: &[u8]) -> Option<Page>
             number: b"64",
             name: b"UnbalancedText",
             text: b"The braces of a text of a RIS record do not match, so no value can hold the text.\n\n  $ printf 'TY  - BOOK\\nTI  - a}b\\nER  - \\n' | bibkeep import new2.bib\n  bibkeep: 64 UnbalancedText\n\nCorrect the braces in the RIS text.\n",
+        });
+    }
+    if is_asked(word, b"65", b"SkippedLine") {
+        return Some(Page {
+            number: b"65",
+            name: b"SkippedLine",
+            text: b"With `--strict`, `import` refuses a RIS text of which a line would be skipped: a line with an unknown tag inside a record, or a\ntext without a tag outside records. The offset is that of the first such line.\n\n  $ printf 'TY  - BOOK\\nTI  - One\\nXX  - q\\nER  - \\n' | bibkeep import new2.bib --strict\n  bibkeep: 65 SkippedLine at 21\n\nRemove the line, or import without `--strict`. `import F --skipped` lists every line that was skipped.\n",
         });
     }
     if is_asked(word, b"71", b"BadScript") {

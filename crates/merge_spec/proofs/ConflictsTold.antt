@@ -1,9 +1,9 @@
 -- Each pair of versions is a conflict.
-use Rattle.std.proofs.Common.{◌≡◌, Bool, true, false, ◌||◌, List, [], ◌∷◌, ◌++◌, Option, refl, ◌∙◌}
+use Rattle.std.proofs.Common.{◌≡◌, Bool, ◌||◌, List, [], ◌∷◌, ◌++◌, Option, refl}
 use Rattle.std.specs.List.{list_any}
 use Rattle.merge_spec.specs.Units.{Unit}
 use Rattle.merge_spec.specs.ThreeWay.{Outcome, Ours, Theirs, Mixed, Gone, Both, are_both}
-use Rattle.merge_spec.specs.Merged.{Place, unit_at}
+use Rattle.merge_spec.specs.Merged.{unit_at}
 use Rattle.merge_spec.specs.Conflicts.{Conflict, conflict_over, conflicts_of, is_any}
 use Rattle.merge_spec.specs.Laws.{conflicts_are_all_told}
 

@@ -1,12 +1,11 @@
 -- No unit of a side is lost in a merge.
-use Rattle.std.proofs.Common.{◌≡◌, ◌<◌, ◌≤◌, ◌+◌, ℕ, zero, suc, Bool, true, false, cond, ◌&&◌, ◌||◌, ◌==◌, List, [], ◌∷◌, Option, None, Some, is_none, is_some, map, length, slice_get, count_by, refl, sym, ◌∙◌, ap, subst, arith, ⊎_elim, ◌⊎◌, inl, inr}
+use Rattle.std.proofs.Common.{◌≡◌, ◌<◌, ◌≤◌, ◌+◌, ℕ, zero, suc, Bool, true, false, cond, ◌&&◌, ◌||◌, List, [], ◌∷◌, Option, None, Some, is_none, map, length, slice_get, count_by, refl, sym, ◌∙◌, ap, subst, arith, ⊎_elim, ◌⊎◌, inl, inr}
 use Rattle.std.specs.List.{list_all, list_any, range_with_len}
 use Rattle.std.proofs.lemmas.Bool.{cases_Bool, cond-true, cond-false, and_parts, and_from, or_cases, true≢false, eqb-true, cases_order}
 use Rattle.std.proofs.lemmas.List.Sums.{sum_by-cons}
-use Rattle.std.proofs.lemmas.Option.{slice_get-get_or}
 use Rattle.merge_spec.specs.Units.{Unit, Label}
-use Rattle.merge_spec.specs.ThreeWay.{Outcome, Ours, Theirs, Mixed, Gone, Both, are_both, is_left, is_unchanged, may_become}
-use Rattle.merge_spec.specs.Merged.{Place, unit_at, is_number, are_once, may_come, is_removed_and_named, is_settled, is_merge, are_seldom, share_label}
+use Rattle.merge_spec.specs.ThreeWay.{Outcome, Ours, Theirs, Mixed, Gone, Both, are_both, may_become}
+use Rattle.merge_spec.specs.Merged.{Place, unit_at, is_number, are_once, may_come, is_removed_and_named, is_settled}
 use Rattle.merge_spec.specs.Laws.{is_ours_kept, is_theirs_kept, nothing_of_ours_is_lost, nothing_of_theirs_is_lost}
 
 -- a test that all numbers of a range pass

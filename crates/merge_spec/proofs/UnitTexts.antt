@@ -1,14 +1,14 @@
 -- The units of a file, with the white space after each, are the file.
-use Rattle.std.proofs.Common.{◌≡◌, ℕ, Bool, true, false, not, None, if◌then◌else◌, List, [], ◌∷◌, ◌++◌, take, drop, map, filter_map, refl, sym, ◌∙◌, ap, append_assoc, append-nil}
+use Rattle.std.proofs.Common.{◌≡◌, not, None, if◌then◌else◌, List, [], ◌∷◌, ◌++◌, refl, sym, ◌∙◌, ap, append_assoc, append-nil}
 use Rattle.std.specs.List.{flat_map, prefix_len}
 use Rattle.std.proofs.lemmas.List.{take-append-drop}
 use Rattle.std.proofs.lemmas.List.Concat.{flat_map-append}
 use Rattle.bib_spec.specs.Text.{Text, is_space, after_run}
 use Rattle.bib_spec.specs.Tree.{Tree, CommentTree, DefinitionTree, PreambleTree, EntryTree, tree_bytes, head_bytes}
-use Rattle.bib_spec.specs.Reading.{Item, Reading, item_bytes, bytes_of}
+use Rattle.bib_spec.specs.Reading.{Item, item_bytes}
 use Rattle.bib_spec.specs.Texts.{Macros, is_empty, months, macros_after}
 use Rattle.bib_text.specs.Trimming.{up_to_last, before_run}
-use Rattle.merge_spec.specs.Units.{Unit, Spaced, spaced_bytes, front_space, end_space, text_units, units_in, units_from, spaced_of}
+use Rattle.merge_spec.specs.Units.{Spaced, spaced_bytes, front_space, end_space, text_units, units_in, units_from}
 use Rattle.merge_spec.specs.Laws.{units_are_the_file}
 
 -- a text is what its white space at the end is taken from, and that white space

@@ -1,8 +1,8 @@
 -- What the definitions say of small files.
-use Rattle.std.specs.Prelude.{ℕ, ◌≡◌, Bool, true, false, List, [], ◌∷◌, ◌++◌, codes, map, Option, None, Some}
+use Rattle.std.specs.Prelude.{ℕ, ◌≡◌, true, false, List, [], ◌∷◌, codes, map, Option, None, Some}
 use Rattle.bib_spec.specs.Text.{Text}
-use Rattle.bib_spec.specs.Tree.{Part, Braced, Quoted, Digits, Macro, Value, Assignment, Row, Brace, Opening, Tree, DefinitionTree, EntryTree}
-use Rattle.bib_spec.specs.Reading.{Item, Reading, bytes_of}
+use Rattle.bib_spec.specs.Tree.{Part, Braced, Quoted, Digits, Value, Row, Brace, Opening, EntryTree}
+use Rattle.bib_spec.specs.Reading.{Item, Reading}
 use Rattle.merge_spec.specs.Units.{Label, units_of, first_space, EntryLabel}
 use Rattle.merge_spec.specs.ThreeWay.{Outcome, Ours, Theirs, Mixed, Gone, Both}
 use Rattle.merge_spec.specs.Merged.{Place, merged_bytes, is_merge}

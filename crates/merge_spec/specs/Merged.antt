@@ -1,10 +1,10 @@
 -- The merge of two files that come from a common one.
-use Rattle.std.specs.Prelude.{ℕ, Bool, true, false, ◌&&◌, ◌||◌, not, ◌==◌, nat_le, List, [], ◌∷◌, ◌++◌, length, map, filter_map, Option, Some, None, option_and_then, slice_get, count_by, codes, if◌then◌else◌, IsTrue}
+use Rattle.std.specs.Prelude.{ℕ, Bool, true, false, ◌&&◌, ◌||◌, ◌==◌, nat_le, List, [], ◌∷◌, ◌++◌, length, map, filter_map, Option, Some, None, option_and_then, slice_get, count_by, codes, if◌then◌else◌}
 use Rattle.std.specs.List.{flat_map, list_all, list_any, range_with_len}
 use Rattle.std.specs.Option.{option_map_or}
 use Rattle.bib_spec.specs.Bytes.{line_feed}
 use Rattle.bib_spec.specs.Text.{Text, is_space}
-use Rattle.bib_spec.specs.Tree.{Row, Entry, Tree, CommentTree, DefinitionTree, PreambleTree, EntryTree, tree_bytes}
+use Rattle.bib_spec.specs.Tree.{Row, EntryTree, tree_bytes}
 use Rattle.merge_spec.specs.Units.{Unit, unit_bytes, Label, label_of, same_label}
 use Rattle.merge_spec.specs.ThreeWay.{Outcome, Ours, Theirs, Mixed, Gone, Both, entry_of, entry_like, are_both, may_become}
 

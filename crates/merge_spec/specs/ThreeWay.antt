@@ -1,9 +1,8 @@
 -- What a merge makes of a unit that a common file, our file and their file have in up to three forms.
-use Rattle.std.specs.Prelude.{ℕ, Bool, true, false, ◌&&◌, ◌||◌, not, ◌==◌, List, [], ◌∷◌, ◌++◌, map, find, Option, Some, None, is_some, is_none, option_map, option_and_then, bytes_eq}
-use Rattle.std.specs.List.{flat_map, list_all, list_any}
-use Rattle.std.specs.Option.{option_map_or}
-use Rattle.bib_spec.specs.Text.{Text, is_space, folded, same}
-use Rattle.bib_spec.specs.Tree.{Value, Row, Head, Opening, Definition, Entry, Tree, CommentTree, DefinitionTree, PreambleTree, EntryTree, value_bytes}
+use Rattle.std.specs.Prelude.{Bool, true, false, ◌&&◌, ◌||◌, not, List, [], ◌∷◌, ◌++◌, map, find, Option, Some, None, is_some, is_none, option_map, option_and_then, bytes_eq}
+use Rattle.std.specs.List.{list_all, list_any}
+use Rattle.bib_spec.specs.Text.{Text, is_space, same}
+use Rattle.bib_spec.specs.Tree.{Row, Head, Opening, Definition, Entry, Tree, CommentTree, DefinitionTree, PreambleTree, EntryTree, value_bytes}
 use Rattle.bib_spec.specs.Texts.{Macros, raw_text, macros_in, field_text, row_start}
 use Rattle.merge_spec.specs.Units.{Unit, unit_bytes}
 

@@ -1,12 +1,12 @@
 -- The units of a file: what a merge keeps, takes or puts aside as a whole.
-use Rattle.std.specs.Prelude.{ℕ, Bool, true, false, ◌&&◌, not, List, [], ◌∷◌, ◌++◌, take, drop, map, Option, Some, None, bytes_eq, if◌then◌else◌}
-use Rattle.std.specs.List.{flat_map, prefix_len}
+use Rattle.std.specs.Prelude.{Bool, false, not, List, [], ◌∷◌, ◌++◌, take, drop, map, Option, Some, None, bytes_eq, if◌then◌else◌}
+use Rattle.std.specs.List.{prefix_len}
 use Rattle.std.specs.Option.{option_map_or}
-use Rattle.bib_spec.specs.Text.{Text, is_space, folded, same, after_run}
-use Rattle.bib_spec.specs.Tree.{Head, Definition, Preamble, Entry, Tree, CommentTree, DefinitionTree, PreambleTree, EntryTree, tree_bytes}
+use Rattle.bib_spec.specs.Text.{Text, is_space, folded, after_run}
+use Rattle.bib_spec.specs.Tree.{Head, Tree, CommentTree, DefinitionTree, PreambleTree, EntryTree, tree_bytes}
 use Rattle.bib_spec.specs.Reading.{Item, Reading}
 use Rattle.bib_spec.specs.Texts.{Macros, is_empty, months, macros_after}
-use Rattle.bib_text.specs.Trimming.{up_to_last, before_run, trimmed}
+use Rattle.bib_text.specs.Trimming.{up_to_last, before_run}
 
 -- ---- white space at the ends of a text
 

@@ -1,7 +1,7 @@
 //! Files read, refused and written.
 
 use bib_text::{Seq, Text, copied};
-use ris_text::{RisFault, RisLine, RisRecord, are_well_formed, read_ris, write_ris};
+use ris_text::{RisFault, RisLine, RisRecord, SkippedLines, are_well_formed, read_ris, write_ris};
 use std::alloc::Global;
 use std::test::Fail;
 
@@ -69,6 +69,35 @@ fn lines_outside_records_are_counted_unless_blank(rt: HostRuntime) -> Result<(),
     assert!(rt; skipped(alloc, file)? == 4);
     assert!(rt; skipped(alloc, b"")? == 0);
     assert!(rt; skipped(alloc, b"TI -no tag\nt1  - nor this")? == 2);
+    Ok(())
+}
+
+/// Whether these lines of the file are skipped: their numbers, places and bytes.
+fn skips(file: &[u8], expected: &[(usize, usize, &[u8])]) -> bool {
+    let mut rest = SkippedLines::of(file);
+    for (number, place, bytes) in expected {
+        let Some((line, after)) = rest.next() else {
+            return false;
+        };
+        if line.number != *number || line.place != *place || line.bytes != *bytes {
+            return false;
+        }
+        rest = after;
+    }
+    rest.next().is_none()
+}
+
+#[test]
+fn skipped_lines_are_found_where_they_stand(rt: HostRuntime) -> Result<(), Fail> {
+    let file = b"\xef\xbb\xbfa\r\nTY  - GEN\nX1  - y\n z\nTI  - t\nX2  - \nER  - \n\nb";
+    let expected: [(usize, usize, &[u8]); 4] = [
+        (1, 3, b"a\r"),
+        (3, 16, b"X1  - y"),
+        (6, 35, b"X2  - "),
+        (9, 50, b"b"),
+    ];
+    assert!(rt; skips(file, &expected));
+    assert!(rt; skips(b"TY  - GEN\n\nq\nER  - \n \n", &[]));
     Ok(())
 }
 

@@ -4,4 +4,6 @@
 #[cfg(test)]
 mod files;
 #[cfg(test)]
+mod plain_texts;
+#[cfg(test)]
 mod records;

@@ -10,6 +10,7 @@ pub mod FitLemmas
 pub mod MeaningLemmas
 pub mod MeaningLaws
 pub mod RestLaws
+pub mod SkipLemmas
 -- ---- texts that are written
 pub mod WriteLemmas
 pub mod TextLaws

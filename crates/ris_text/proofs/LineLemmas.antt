@@ -9,10 +9,10 @@ abbrev pub line_len : Text → ℕ
 line_len t = prefix_len (λ b. not (b == line_feed)) t
 
 -- the line feed is the first byte, or comes after the first
-ends_here : (b : ℕ) (t : Text) → (b == line_feed) ≡ true → (line_len (b ∷ t) ≡ 0) × (line_texts (b ∷ t) ≡ [] ∷ line_texts t)
+pub ends_here : (b : ℕ) (t : Text) → (b == line_feed) ≡ true → (line_len (b ∷ t) ≡ 0) × (line_texts (b ∷ t) ≡ [] ∷ line_texts t)
 ends_here b t is = (rw is refl, rw is refl)
 
-ends_later : (b : ℕ) (t : Text) → (b == line_feed) ≡ false → (line_len (b ∷ t) ≡ suc (line_len t)) × (line_texts (b ∷ t) ≡ onto_first b (line_texts t))
+pub ends_later : (b : ℕ) (t : Text) → (b == line_feed) ≡ false → (line_len (b ∷ t) ≡ suc (line_len t)) × (line_texts (b ∷ t) ≡ onto_first b (line_texts t))
 ends_later b t is = (rw is (omega arith), rw is refl)
 
 -- a line that ends in a line feed

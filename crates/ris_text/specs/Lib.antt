@@ -7,3 +7,5 @@ pub mod Writing
 pub mod Laws
 pub mod Code
 pub mod Rest
+pub mod Skipped
+pub mod Skipping

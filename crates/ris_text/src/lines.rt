@@ -63,7 +63,7 @@ fn plain_line(place: usize, text: &[u8]) -> Line<'_>
 
 /// The line at this place that has these bytes.
 #[tactic(auto, unfolding(crate::specs::Lines::line_at))]
-fn line_at(place: usize, bytes: &[u8]) -> Line<'_>
+pub(crate) fn line_at(place: usize, bytes: &[u8]) -> Line<'_>
     ensures { seen result ≡ line_at place bytes.now }
 {
     if !has_tag(bytes) {
@@ -74,7 +74,7 @@ fn line_at(place: usize, bytes: &[u8]) -> Line<'_>
 }
 
 /// How many bytes are before the first line feed, or before the end if there is none.
-fn line_len(text: &[u8]) -> usize
+pub(crate) fn line_len(text: &[u8]) -> usize
     ensures len { result ≡ prefix_len (λ b. not (b == line_feed)) text.now }
     ensures within { result ≤ length text.now }
 {
@@ -86,7 +86,7 @@ fn line_len(text: &[u8]) -> usize
 
 /// How many bytes of the file the mark of UTF-8 takes.
 #[tactic(auto, unfolding(crate::specs::Lines::mark_len))]
-fn mark_len(file: &[u8]) -> usize
+pub(crate) fn mark_len(file: &[u8]) -> usize
     ensures len { result ≡ mark_len file.now }
     ensures within { result ≤ length file.now }
 {

@@ -115,7 +115,7 @@ fn question_answer(
         Question::NewKeys => newkeys_in(alloc, db, depth),
         Question::Ris => {
             let keys = command.words_after_file();
-            ris_in(alloc, db, keys, depth, command.dropped)
+            ris_in(alloc, db, keys, depth, command.dropped, command.plain)
         }
         Question::Extract => extract_in(alloc, db, command.words_after_file()),
     }

@@ -1,15 +1,18 @@
 //! `import`: what a RIS text adds to a file.
 
-ghost use Rattle.std.specs.Prelude.{◌≡◌, ◌≢◌, [], IfOk, IfErr, OnOk, option_map};
+ghost use Rattle.std.specs.Prelude.{◌≡◌, ◌≢◌, List, [], IfOk, IfErr, OnOk, option_map};
 ghost use Rattle.bib_data.specs.declared.edit.Edit.TheVariants.{AddMany};
 ghost use Rattle.bib_journal.specs.Session.{MakesEdit, RefusesEdit};
 ghost use Rattle.bib_journal.specs.declared.fault.SessionFault.TheVariants.{Memory};
 ghost use Rattle.bib_ris.specs.declared.fault.ImportFault.TheVariants.{Memory as ImportMemory};
+ghost use Rattle.ris_text.specs.Lines.{Line};
+ghost use Rattle.ris_text.specs.Skipped.{AreSkipped};
 ghost use Rattle.bib_answers.specs.Outcome.{answer_of};
 ghost use Rattle.bib_run.specs.Sessions.{fault_line};
 ghost use Rattle.bib_run.specs.Inputs.{AnswersInput};
-ghost use Rattle.bib_run.specs.ImportAnswer.{added_line, unread_line, import_fault_line, HasAdded, HasImported, IsImportAnswer};
+ghost use Rattle.bib_run.specs.ImportAnswer.{added_line, import_told, unread_line, import_fault_line, HasAdded, HasImported, IsImportAnswer};
 
+use crate::commands::skipping::with_skipped;
 use crate::sessions::{fault_line, open_with, outcome_after, unopened};
 use bib_answers::{Answer, placed_line, refused, too_long};
 use bib_data::{Edit, NewEntry};
@@ -17,26 +20,26 @@ use bib_journal::{Session, SessionFault};
 use bib_ris::{Additions, ImportFault, import};
 use bib_scan::{FILE_LIMIT, Seq, Text, copied};
 use bib_store::Paged;
+use bib_words::Command;
 use ris_text::RisFault;
 use std::alloc::{AllocError, Global};
 
 /// The message of a RIS text where the braces of a record's text do not balance.
 const UNBALANCED_TEXT: &[u8] = b"bibkeep: 64 UnbalancedText\n";
 
-/// Adds the records of the input to the file, all at once; with `latex` LaTeX prints their texts as they are.
+/// Adds the records of the input to the file, all at once, with the options `--latex`, `--strict` and `--skipped` of the command.
 pub fn answer_import(
     alloc: Global,
+    command: &Command,
     file: Vec<u8>,
     journal: Option<&[u8]>,
-    new_journal: bool,
     input: &[u8],
-    latex: bool,
 ) -> Result<Answer, AllocError>
-    ensures { IfOk result (IsImportAnswer latex new_journal file.items (option_map (λ text. text.now) journal.entry) input.now) }
+    ensures { IfOk result (IsImportAnswer command.now file.items (option_map (λ text. text.now) journal.entry) input.now) }
 {
-    match open_with(alloc, file, journal, new_journal) {
+    match open_with(alloc, file, journal, command.new_journal) {
         Ok(mut session) => {
-            let answer = answer_records(alloc, &mut session, input, latex);
+            let answer = answer_records(alloc, command, &mut session, input);
             session.close();
             answer
         }
@@ -47,31 +50,52 @@ pub fn answer_import(
 /// Adds the records of the input to the file of a session, unless the input is too long.
 fn answer_records(
     alloc: Global,
+    command: &Command,
     session: &mut Session<Paged>,
     input: &[u8],
-    latex: bool,
 ) -> Result<Answer, AllocError>
-    ensures { IfOk result (AnswersInput (HasImported latex) input.now session.old) }
+    ensures { IfOk result (AnswersInput (HasImported command.now) input.now session.old) }
 {
     if input.len() > FILE_LIMIT {
         return too_long(alloc);
     }
-    import_into(alloc, session, input, latex)
+    import_into(alloc, command, session, input)
 }
 
 /// Adds the records of a text to the file of a session.
 fn import_into(
     alloc: Global,
+    command: &Command,
     session: &mut Session<Paged>,
     text: &[u8],
-    latex: bool,
 ) -> Result<Answer, AllocError>
-    ensures { IfOk result (HasImported latex text.now session.old) }
+    ensures { IfOk result (HasImported command.now text.now session.old) }
 {
-    match import(alloc, session.database(), text, latex) {
-        Ok(additions) => add(alloc, session, additions),
+    let (latex, strict) = (command.latex, command.strict);
+    match import(alloc, session.database(), text, latex, strict) {
+        Ok(additions) => {
+            let told = told_of(alloc, command.skipped, &additions, text)?;
+            add(alloc, session, additions, told)
+        }
         Err(fault) => unread(alloc, fault),
     }
+}
+
+/// What an import prints of these additions of a text: how many entries are added and how many lines are skipped; and with
+/// `listed` the lines that are skipped.
+fn told_of(
+    alloc: Global,
+    listed: bool,
+    additions: &Additions,
+    text: &[u8],
+) -> Result<Text, AllocError>
+    ensures { IfOk result (λ told. (lines : List Line) → AreSkipped text.now lines → told ≡ import_told listed additions.now text.now lines) }
+{
+    let counts = added_line(alloc, additions.entries.as_slice().len(), additions.skipped)?;
+    if listed {
+        return with_skipped(counts, text);
+    }
+    Ok(counts)
 }
 
 /// Adds the entries, or says why they cannot be added.
@@ -79,10 +103,10 @@ fn add(
     alloc: Global,
     session: &mut Session<Paged>,
     additions: Additions,
+    told: Text,
 ) -> Result<Answer, AllocError>
-    ensures { IfOk result (HasAdded additions session.old) }
+    ensures { IfOk result (HasAdded additions told session.old) }
 {
-    let output = added_line(alloc, additions.entries.as_slice().len(), additions.skipped)?;
     if let Err(fault) = add_entries(session, additions.entries) {
         return unadded(alloc, fault);
     }
@@ -90,7 +114,10 @@ fn add(
         return Err(AllocError);
     };
     let outcome = outcome_after(alloc, 1, None, saved);
-    Ok(Answer { output, outcome })
+    Ok(Answer {
+        output: told,
+        outcome,
+    })
 }
 
 /// Adds the entries by one edit, and drops them before anything else is made of the file.
@@ -126,6 +153,10 @@ fn unread(alloc: Global, fault: ImportFault) -> Result<Answer, AllocError>
     match fault {
         ImportFault::Unread(fault) => Ok(refused(alloc, unread_line(alloc, fault)?)),
         ImportFault::UnbalancedText => Ok(refused(alloc, copied(alloc, UNBALANCED_TEXT)?)),
+        ImportFault::SkippedLine(place) => {
+            let line = placed_line(alloc, 65, "SkippedLine", place)?;
+            Ok(refused(alloc, line))
+        }
         ImportFault::Memory => Err(AllocError),
     }
 }

@@ -1,21 +1,22 @@
 //! `insert`: a text is put into a file.
 
-ghost use Rattle.std.specs.Prelude.{◌≡◌, ◌≢◌, [], IfOk, option_map};
+ghost use Rattle.std.specs.Prelude.{◌≡◌, ◌≢◌, [], None, Some, IfOk, option_map};
 ghost use Rattle.bib_edit.specs.declared.fault.EditFault.TheVariants.{BadPosition};
 ghost use Rattle.bib_journal.specs.declared.fault.SessionFault.TheVariants.{Refused, Memory};
 ghost use Rattle.bib_answers.specs.Outcome.{answer_of};
 ghost use Rattle.bib_run.specs.Inputs.{AnswersInput};
 ghost use Rattle.bib_run.specs.Sessions.{fault_line};
-ghost use Rattle.bib_run.specs.InsertAnswer.{position_asked, inserted_line, uninserted_line, HasPutIn, HasInserted, IsInsertAnswer};
+ghost use Rattle.bib_run.specs.InsertAnswer.{position_asked, inserted_line, uninserted_line, HasPutIn, AreNews, HasPutNews, HasInserted, IsInsertAnswer};
 
 use crate::sessions::{fault_line, open_with, outcome_after, unopened};
 use bib_answers::{Answer, refusal_in, refused, too_long};
 use bib_data::Position;
-use bib_edit::EditFault;
+use bib_edit::{EditFault, place_of};
 use bib_journal::{Session, SessionFault};
+use bib_paste::news_of;
 use bib_scan::{FILE_LIMIT, Text};
 use bib_script::read_position;
-use bib_store::Paged;
+use bib_store::{Database, Paged};
 use std::alloc::{AllocError, Global};
 
 /// How a message calls the text.
@@ -91,14 +92,60 @@ fn position_asked(alloc: Global, words: &[Text]) -> Result<Option<Position>, All
     }
 }
 
-/// Puts a text into the file of a session at this position, or says why it can't be put in.
+/// What came of a text that was to be put in: the answer, and the reason against the text if there was one.
+#[derive(Drop)]
+struct Attempt {
+    answer: Answer,
+    fault: Option<SessionFault>,
+}
+
+/// Puts a text into the file of a session at this position. If it defines a macro that the file defines, only what is new of it is
+/// put in.
 fn insert_at(
     alloc: Global,
     session: &mut Session<Paged>,
     position: &Position,
     text: &[u8],
 ) -> Result<Answer, AllocError>
-    ensures { IfOk result (HasPutIn position.now text.now session.old) }
+    ensures { IfOk result (HasPutNews position.now text.now session.old) }
+{
+    let whole = try_put(alloc, session, position, text)?;
+    if whole.fault != Some(SessionFault::Refused(EditFault::NameInUse)) {
+        return Ok(whole.answer);
+    }
+    let news = news_in(alloc, session.database(), position, text)?;
+    let new = try_put(alloc, session, position, news.as_slice())?;
+    Ok(new.answer)
+}
+
+/// The bytes of what is new of a text at this position.
+fn news_in(
+    alloc: Global,
+    db: &Database<Paged>,
+    position: &Position,
+    text: &[u8],
+) -> Result<Text, AllocError>
+    ensures { IfOk result (AreNews position.now db.now text.now) }
+{
+    let Ok(place) = place_of(db, position) else {
+        return Err(AllocError);
+    };
+    // The position and the text were good, so only want of memory refuses them.
+    let Ok(new) = Database::open_bytes(alloc, text, Paged::new(alloc)) else {
+        return Err(AllocError);
+    };
+    news_of(alloc, db, place, &new)
+}
+
+/// Puts a text into the file of a session at this position, or says why it can't be put in. A refusal changes nothing.
+fn try_put(
+    alloc: Global,
+    session: &mut Session<Paged>,
+    position: &Position,
+    text: &[u8],
+) -> Result<Attempt, AllocError>
+    ensures put { IfOk result (λ made. HasPutIn position.now text.now session.old made.answer made.fault) }
+    ensures same { IfOk result (λ made. made.fault ≢ None → session.new ≡ session.old) }
 {
     let before = session.database().entry_count();
     if let Err(fault) = session.insert(position, text) {
@@ -108,9 +155,12 @@ fn insert_at(
     let Ok(saved) = session.saved() else {
         return Err(AllocError);
     };
-    Ok(Answer {
-        output: inserted_line(alloc, added)?,
-        outcome: outcome_after(alloc, 1, None, saved),
+    Ok(Attempt {
+        answer: Answer {
+            output: inserted_line(alloc, added)?,
+            outcome: outcome_after(alloc, 1, None, saved),
+        },
+        fault: None,
     })
 }
 
@@ -122,14 +172,17 @@ fn inserted_line(alloc: Global, added: usize) -> Result<Text, AllocError>
     Ok(Text::from_vec(line.into_bytes()))
 }
 
-/// The answer when the text is not put in: no output, and the message says why. Want of memory is no answer.
-fn uninserted(alloc: Global, fault: SessionFault) -> Result<Answer, AllocError>
-    ensures { IfOk result (λ answer. (fault ≢ Memory) × (answer ≡ answer_of [] (uninserted_line fault) 1)) }
+/// What came of a text that is not put in: no output, and the message says why. Want of memory is no answer.
+fn uninserted(alloc: Global, fault: SessionFault) -> Result<Attempt, AllocError>
+    ensures { IfOk result (λ made. (fault ≢ Memory) × (made.answer ≡ answer_of [] (uninserted_line fault) 1) × (made.fault ≡ Some fault)) }
 {
     if fault == SessionFault::Memory {
         return Err(AllocError);
     }
-    Ok(refused(alloc, uninserted_line(alloc, fault)?))
+    Ok(Attempt {
+        answer: refused(alloc, uninserted_line(alloc, fault)?),
+        fault: Some(fault),
+    })
 }
 
 /// A line that says why a text is not put in.

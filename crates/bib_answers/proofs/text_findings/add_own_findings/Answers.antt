@@ -4,6 +4,9 @@ use Rattle.bib_answers.specs.Lint.{has_uses, text_findings}
 use Rattle.bib_answers.proofs.FindingSteps.{findings_none}
 use Rattle.bib_answers.proofs.text_findings.add_own_findings.Goals as goal
 
+pub is_plain-requires : goal.is_plain-requires
+is_plain-requires g c known = let plain = c.requires.plain known in (plain.name, plain.value)
+
 pub returns-then-is_plain : goal.returns-then-is_plain
 returns-then-is_plain g c = λ v ok same.
     sym (findings_none c.args.lines.now)

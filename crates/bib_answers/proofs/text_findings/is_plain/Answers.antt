@@ -9,10 +9,12 @@ use Rattle.bib_answers.proofs.text_findings.is_plain.Goals as goal
 
 pub returns-then-has_names : goal.returns-then-has_names
 returns-then-has_names c few field macros is v ok same =
-    plain_own field macros v (ap (count_by is_other) is ∙ c.is_ascii.ensures c.if-not-is_ascii.false) (ap (count_by is_other) same ∙ c.is_ascii-2.ensures c.if-not-is_ascii-2.false)
+    let both = c.are_ascii.ensures c.if-not-are_ascii.false in
+    plain_own field macros v (ap (count_by is_other) is ∙ both.0) (ap (count_by is_other) same ∙ both.1)
     (λ named raw most. c.has_few_commas.ensures few raw (subst (λ (t : Text). count_by is_comma_byte raw ≤ count_by is_comma_byte t) same most))
 
 pub returns : goal.returns
 returns c yes_it field macros is v ok same =
-    plain_own field macros v (ap (count_by is_other) is ∙ c.is_ascii.ensures c.if-not-is_ascii.false) (ap (count_by is_other) same ∙ c.is_ascii-2.ensures c.if-not-is_ascii-2.false)
+    let both = c.are_ascii.ensures c.if-not-are_ascii.false in
+    plain_own field macros v (ap (count_by is_other) is ∙ both.0) (ap (count_by is_other) same ∙ both.1)
     (λ named. absurd (false≢true (sym c.if-has_names.false ∙ c.has_names.ensures ∙ sym (ap has_names is) ∙ named)))

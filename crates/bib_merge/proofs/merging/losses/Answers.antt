@@ -20,3 +20,6 @@ pub returns-in_err-lost-clause-fault : goal.returns-in_err-lost-clause-fault
 returns-in_err-lost-clause-fault c =
     let p = err_from_is_err_and c.from_residual-in_err-lost.result c.from_residual-in_err-lost.ensures.1 in
     rw (p.1, p.2) c.in_err-lost.ensures.fault
+
+pub returns-clause-items : goal.returns-clause-items
+returns-clause-items c rm reads_m = c.in_ok-lost.ensures.items rm (subst (λ t. Reads t rm) (sym c.in_ok-db.ensures.opened) reads_m)

@@ -2,6 +2,9 @@ use Rattle.std.proofs.lemmas.Result.{err_from_is_err_and}
 use Rattle.bib_merge.specs.Merges.{IsMergedFault}
 use Rattle.bib_merge.proofs.merging.losses_in.Goals as goal
 
+pub returns-clause-items : goal.returns-clause-items
+returns-clause-items c rm reads_m ro rt so st = (c.in_ok-has_items.ensures rm reads_m ro rt so st).0 c.if-not-branch.false
+
 pub returns-in_err-has_items-clause-fault : goal.returns-in_err-has_items-clause-fault
 returns-in_err-has_items-clause-fault c =
     let p = err_from_is_err_and c.from_residual.result c.from_residual.ensures.1 in

@@ -20,7 +20,7 @@ returns-clause-told c =
       ours_opens = subst (λ f. Opens f o.0) (sym c.requires.ours) o.1;
       theirs_opens = subst (λ f. Opens f t.0) (sym c.requires.theirs) t.1;
       text_opens = m.1;
-      merge = c.in_ok-told.ensures.merged b.0 o.0 t.0
+      merge = c.in_ok-told.ensures.merged m.0 m.1.reads b.0 o.0 t.0
           (record { reads = b.1.reads; are = c.in_ok-of_base.ensures.units b.0 (subst (λ f. Reads f b.0) (sym c.requires.base) b.1.reads) })
           (record { reads = o.1.reads; are = c.in_ok-of_ours.ensures.units o.0 (subst (λ f. Reads f o.0) (sym c.requires.ours) o.1.reads) })
           (record { reads = t.1.reads; are = c.in_ok-of_theirs.ensures.units t.0 (subst (λ f. Reads f t.0) (sym c.requires.theirs) t.1.reads) });

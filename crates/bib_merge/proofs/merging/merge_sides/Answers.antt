@@ -10,7 +10,7 @@ use Rattle.bib_places.specs.PlacesSeen.{IsSide, place_seen}
 use Rattle.bib_merge.proofs.merging.merge_sides.Goals as goal
 
 pub returns-clause-merged : goal.returns-clause-merged
-returns-clause-merged c rb ro rt sb so st =
+returns-clause-merged c rm reads_m rb ro rt sb so st =
     let side_b = subst (IsSide rb c.args.b.now) (sym c.as_slice-base_units.ensures.value) sb in
     let side_o = subst (IsSide ro c.args.o.now) (sym c.as_slice-our_units.ensures.value) so in
     let side_t = subst (IsSide rt c.args.t.now) (sym c.as_slice-their_units.ensures.value) st in
@@ -18,7 +18,8 @@ returns-clause-merged c rb ro rt sb so st =
       places = map (place_seen (units_of ro) (units_of rt)) c.as_slice-places.result.now;
       space = c.chosen-space.result.now;
       merge = subst (λ ps. is_merge (map owned_seen c.args.given.now) (units_of rb) (units_of ro) (units_of rt) (map (place_seen (units_of ro) (units_of rt)) ps) ≡ true) (sym c.as_slice-places.ensures.value) (c.in_ok-list.ensures.merge rb ro rt side_b side_o side_t);
-      bytes = sym (c.in_ok-told.ensures.text ∙ c.in_ok-text.ensures ro rt side_o side_t);
+      bytes = sym (reads_m.bytes ∙ c.in_ok-told.ensures.text ∙ c.in_ok-text.ensures ro rt side_o side_t);
+      items = c.in_ok-told.ensures.items rm (subst (λ t. Reads t rm) c.in_ok-told.ensures.text reads_m) ro rt side_o side_t;
       told = sym (c.in_ok-told.ensures.conflicts rb ro rt side_b side_o side_t);
     }
 

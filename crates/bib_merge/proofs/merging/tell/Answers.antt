@@ -13,6 +13,9 @@ pub returns-clause-uses : goal.returns-clause-uses
 returns-clause-uses c ro reads_o rt reads_t rm reads_m =
     c.in_ok-lost.ensures.uses ro reads_o rt reads_t rm (subst (λ t. Reads t rm) (sym c.as_slice.ensures) reads_m)
 
+pub returns-clause-items : goal.returns-clause-items
+returns-clause-items c rm reads_m = c.in_ok-lost.ensures.items rm (subst (λ t. Reads t rm) (sym c.as_slice.ensures) reads_m)
+
 pub returns-clause-opens : goal.returns-clause-opens
 returns-clause-opens c = subst IsOpenable c.as_slice.ensures c.in_ok-lost.ensures.opens
 

@@ -1,4 +1,4 @@
-use Rattle.std.proofs.Common.{[], ◌∷◌, map, sym, ◌∙◌, ap}
+use Rattle.std.proofs.Common.{[], ◌∷◌, sym, ◌∙◌}
 use Rattle.bib_places.specs.declared.owned_label.OwnedLabel.{OwnedLabel}
 use Rattle.bib_places.specs.LabelCodes.{code_of}
 use Rattle.bib_places.specs.OwnedLabels.{owned_seen}

@@ -1,11 +1,17 @@
 use Rattle.bib_run.proofs.Words.{subst, IfOk-weaker, Text, AreAdditions}
-use Rattle.bib_run.specs.ImportAnswer.{read, unread}
+use Rattle.ris_text.specs.Skipped.{skips}
+use Rattle.bib_run.specs.ImportAnswer.{read, unread, HasAdded}
+use Rattle.bib_run.proofs.SkippedLines.{are_skipped}
 use Rattle.bib_run.proofs.commands.import.import_into.Goals as goal
 
-pub returns-in-Ok : goal.returns-in-Ok
-returns-in-Ok c =
+pub returns-in_ok-told-in-Ok : goal.returns-in_ok-told-in-Ok
+returns-in_ok-told-in-Ok c =
+    let adds : AreAdditions c.args.command.now.latex c.args.command.now.strict c.args.session.now.steps.present c.args.text.now c.in-Ok.additions =
+    subst (λ (file : Text). AreAdditions c.args.command.now.latex c.args.command.now.strict file c.args.text.now c.in-Ok.additions) c.database.ensures c.in-Ok.ensures.additions in
+    let are = are_skipped c.args.command.now.latex c.args.command.now.strict c.args.session.now.steps.present c.args.text.now c.in-Ok.additions adds in
     IfOk-weaker c.add.result _ _
-    (λ answer h. read c.in-Ok.additions (subst (λ (file : Text). AreAdditions c.args.latex file c.args.text.now c.in-Ok.additions) c.database.ensures c.in-Ok.ensures.additions) h)
+    (λ answer h. read c.in-Ok.additions adds (skips adds.reads.tree) are
+    (subst (λ (told : Text). HasAdded c.in-Ok.additions told c.args.session.now answer) (c.in_ok-told-in-Ok.ensures (skips adds.reads.tree) are) h))
     c.add.ensures
 
 pub returns-in-Err : goal.returns-in-Err

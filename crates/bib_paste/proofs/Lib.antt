@@ -1,0 +1,2 @@
+pub mod NewItems
+pub mod PartsAlone
