@@ -133,7 +133,7 @@ int bibkeep_entry(bibkeep *handle, bibkeep_bytes key, int depth, bibkeep_bytes *
  *
  * These answer what the program answers to the same bytes. They need a handle for what they give out, and leave its session as
  * it is. They return the number of the fault in the message, or 0; `error` has its place and line too. The place is one of the
- * file; with 53 of the journal; with 61 to 64, or if the message ends with ` in standard input`, of the input. bibkeep_lint
+ * file; with 53 of the journal; with 61 to 65, or if the message ends with ` in standard input`, of the input. bibkeep_lint
  * returns 0 if it found something, and the answer has status 1. (bib_c_run)
  *
  * diff takes the name of the new file as its one argument, and the new file as the input; messages call the old file `-`, and of
@@ -167,6 +167,8 @@ typedef struct {
     int strict;               /* --strict */
     int latex;                /* --latex */
     int raw;                  /* --raw */
+    int skipped;              /* --skipped */
+    int plain;                /* --plain */
     const bibkeep_bytes *aux; /* the names of the aux files whose keys are among the arguments; lint makes nothing of them */
     size_t aux_count;
 } bibkeep_options;
