@@ -155,9 +155,9 @@ refused_case '38 NameInUse' '@string{m = 1}@misc{a} @book' '{ @string{m = 2}'
 
 # A definition that says what the file says there is left out, with the white space behind it, and the rest is put in.
 case_of '@string{m = {x}}\n' '@string{M = "x"}\n\n@book{b, t = m}\n' 1 '@string{m = {x}}\n@book{b, t = m}\n'
-case_of '@string{m = 12}\n@misc{a}\n' '% of a page\n@book{b}\n@string(M={12})\n' 1 '@string{m = 12}\n@misc{a}\n% of a page\n@book{b}\n'
+case_of '@string{m = 12}\n@misc{a}\n' '%% of a page\n@book{b}\n@string(M={12})\n' 1 '@string{m = 12}\n@misc{a}\n%% of a page\n@book{b}\n'
 case_of '@string{m = {x}}' '@string{m = {x}}' 0 '@string{m = {x}}'
-case_of '@string{m = {x}}\n@misc{a}\n' '% all\n@string{m = {x}}\n@string{n = {y}}\n@string{m = "x"} @book{b, t = m # n}' 1 '@string{m = {x}}\n% all\n@string{n = {y}}\n@book{b, t = m # n}@misc{a}\n' 1
+case_of '@string{m = {x}}\n@misc{a}\n' '%% all\n@string{m = {x}}\n@string{n = {y}}\n@string{m = "x"} @book{b, t = m # n}' 1 '@string{m = {x}}\n%% all\n@string{n = {y}}\n@book{b, t = m # n}@misc{a}\n' 1
 # What the macro stands for at the position counts: there, before its definition, or after the second.
 refused_case '38 NameInUse' '@misc{a}\n@string{m = {x}}' '@string{m = {x}}@book{b}' 0
 refused_case '38 NameInUse' '@string{m = {x}}\n@string{m = {y}}' '@string{m = {x}}@book{b}'
