@@ -119,6 +119,12 @@ def definitions(count):
     return b"".join(b"@string{m%d = {Journal of Examples %d}}\n" % (n, n) for n in range(count))
 
 
+def unused(count, size):
+    """So many macros that nothing uses, and then a library, at most `size` bytes together."""
+    macros = definitions(count)
+    return macros + library(size - len(macros))
+
+
 def abbreviated(count):
     """So many macros, and then as many articles as long as those of a database are, each with a use of one of them and a publisher of its own."""
     return definitions(count) + b"".join(
@@ -189,6 +195,16 @@ def inlinings(count):
 def undefinings(count):
     """A script of so many edits: each takes out a definition of a file by rule that nothing uses."""
     return b"".join(b"undefine\tm%d\n" % n for n in range(count))
+
+
+def definings(count):
+    """A script of so many edits: each defines a macro that nothing uses."""
+    return b"".join(b"define\tother%d\t{Annals of Examples %d}\n" % (n, n) for n in range(count))
+
+
+def macro_settings(count):
+    """A script of so many edits: each gives a macro of a file by rule that nothing uses another value."""
+    return b"".join(b"set-macro\tm%d\t{Annals of Examples %d}\n" % (n, n) for n in range(count))
 
 
 def inlinings_from_the_end(count):
@@ -472,6 +488,7 @@ CONTENTS = {
     "library 16": lambda: library(16000000),
     "definitions 3": lambda: definitions(3000),
     "definitions 10": lambda: definitions(10000),
+    "unused 10 in 4": lambda: unused(10000, 4000000),
     "abbreviated 4": lambda: abbreviated(5000),
     "abbreviated 8": lambda: abbreviated(10000),
     "use 100": lambda: one_macro(100000),

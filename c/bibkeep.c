@@ -26,7 +26,8 @@ typedef struct {
 typedef struct {
     uint32_t n;
     uint8_t depth;
-    bool print, new_journal, no_journal, all_or_nothing, dropped, at, strict, latex, raw, skipped, plain;
+    bool print, new_journal, no_journal, all_or_nothing, dropped, at, strict, latex, raw, skipped, plain,
+        bibtex;
 } core_options;
 
 bool bib_c_new(core_handle *);
@@ -88,6 +89,8 @@ const char *bibkeep_error_name(int number) {
     case 11: return "NoSuchEntry";
     case 12: return "BadSplice";
     case 13: return "NoSuchFault";
+    case 14: return "NotPlain";
+    case 15: return "TooDeep";
     case 21: return "TooManyCommas";
     case 22: return "UnbalancedName";
     case 23: return "BadTemplate";
@@ -429,7 +432,7 @@ static core_options core_of(const bibkeep_options *given) {
                           given->new_journal != 0, given->no_journal != 0,     given->all_or_nothing != 0,
                           given->dropped != 0,     given->at != 0,             given->strict != 0,
                           given->latex != 0,       given->raw != 0,             given->skipped != 0,
-                          given->plain != 0};
+                          given->plain != 0,       given->bibtex != 0};
 }
 
 /* Gives out what a command gave, and tells what came of it. */

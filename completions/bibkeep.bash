@@ -44,11 +44,12 @@ _bibkeep() {
             entry) options='--at --hints --help' ;;
             check) options='--before --after --hints --help' ;;
             lint) options='--ignore --aux --before --after --hints --help' ;;
-            cite) options='--min-crossrefs --strict --aux --before --after --hints --help' ;;
+            cite) options='--min-crossrefs --strict --bibtex --aux --before --after --hints --help' ;;
             labels) options='--depth --aux --before --after --hints --help' ;;
-            json) options='--depth --raw --aux --before --after --hints --help' ;;
-            show | names | newkeys) options='--depth --before --after --hints --help' ;;
-            ris) options='--depth --dropped --plain --aux --before --after --hints --help' ;;
+            json) options='--depth --raw --bibtex --aux --before --after --hints --help' ;;
+            show) options='--depth --bibtex --before --after --hints --help' ;;
+            names | newkeys) options='--depth --before --after --hints --help' ;;
+            ris) options='--depth --dropped --plain --bibtex --aux --before --after --hints --help' ;;
             extract) options='--aux --before --after --hints --help' ;;
             edit) options='--print --new-journal --no-journal --all-or-nothing --hints --help' ;;
             insert) options='--print --new-journal --no-journal --hints --help' ;;
@@ -226,7 +227,7 @@ _bibkeep_macros() {
 # The faults that `bibkeep explain` knows: their numbers, and their names once one is begun.
 _bibkeep_faults() {
     local faults='1:Unended 2:ExpectedName 3:ExpectedEquals 4:ExpectedCommaOrClose 5:ExpectedValue 6:UnbalancedBrace 7:KeyTooLong
-        8:TextTooLong 9:FileTooLong 10:Memory 11:NoSuchEntry 12:BadSplice 13:NoSuchFault 21:TooManyCommas 22:UnbalancedName
+        8:TextTooLong 9:FileTooLong 10:Memory 11:NoSuchEntry 12:BadSplice 13:NoSuchFault 14:NotPlain 15:TooDeep 21:TooManyCommas 22:UnbalancedName
         23:BadTemplate 24:NotUtf8 31:BadKey 32:BadName 33:BadValue 34:BadPosition 35:NotFound 36:Ambiguous 37:KeyInUse
         38:NameInUse 39:Referred 40:WouldMerge 41:JournalFull 46:NoScript 51:NothingToUndo 52:NothingToRedo
         53:BadJournal 54:JournalMismatch 55:StepOpen 56:NoOpenStep 61:NoStart 62:NoEnd 63:EmptyType 64:UnbalancedText 65:SkippedLine 71:BadScript'

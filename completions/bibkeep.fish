@@ -71,7 +71,7 @@ end
 
 function __bibkeep_faults
     set -l faults 1:Unended 2:ExpectedName 3:ExpectedEquals 4:ExpectedCommaOrClose 5:ExpectedValue 6:UnbalancedBrace 7:KeyTooLong \
-        8:TextTooLong 9:FileTooLong 10:Memory 11:NoSuchEntry 12:BadSplice 13:NoSuchFault 21:TooManyCommas 22:UnbalancedName \
+        8:TextTooLong 9:FileTooLong 10:Memory 11:NoSuchEntry 12:BadSplice 13:NoSuchFault 14:NotPlain 15:TooDeep 21:TooManyCommas 22:UnbalancedName \
         23:BadTemplate 24:NotUtf8 31:BadKey 32:BadName 33:BadValue 34:BadPosition 35:NotFound 36:Ambiguous 37:KeyInUse \
         38:NameInUse 39:Referred 40:WouldMerge 41:JournalFull 46:NoScript 51:NothingToUndo 52:NothingToRedo \
         53:BadJournal 54:JournalMismatch 55:StepOpen 56:NoOpenStep 61:NoStart 62:NoEnd 63:EmptyType 64:UnbalancedText 65:SkippedLine 71:BadScript
@@ -128,6 +128,8 @@ complete -c bibkeep -n '__fish_seen_subcommand_from lint' -l aux -r -k -a '(__fi
 complete -c bibkeep -n '__fish_seen_subcommand_from check lint show cite labels json names newkeys ris extract' -l before -r -k -a '(__fish_complete_suffix .bib)' -d 'A BibTeX file that is read before F; may be given several times'
 complete -c bibkeep -n '__fish_seen_subcommand_from check lint show cite labels json names newkeys ris extract' -l after -r -k -a '(__fish_complete_suffix .bib)' -d 'A BibTeX file that is read after F; may be given several times'
 complete -c bibkeep -n '__fish_seen_subcommand_from json' -l raw -d 'Prints the fields as they are written, and where each entry stands'
+complete -c bibkeep -n '__fish_seen_subcommand_from show json ris' -l bibtex -d 'Prints the entries as BibTeX 0.99d reads them'
+complete -c bibkeep -n '__fish_seen_subcommand_from cite' -l bibtex -d 'Lists what BibTeX 0.99d would list'
 complete -c bibkeep -n '__fish_seen_subcommand_from cite' -l strict -d 'Ends with status 1 if a key is unknown'
 complete -c bibkeep -n '__fish_seen_subcommand_from lint' -l ignore -x -a 'undefined-macro own-macro repeated-field repeated-key missing-parent own-parent early-parent nested-parent no-key odd-key conflict-marker lost-entry lone-brace repeated-macro refused-name empty-crossref not-utf8 missing-key' -d 'Leaves out findings with this code; may be given several times'
 complete -c bibkeep -n '__fish_seen_subcommand_from cite' -l min-crossrefs -x -d 'How many cited entries must refer to a parent so that it is listed too, from 1 to 65535'

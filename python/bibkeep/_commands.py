@@ -46,12 +46,14 @@ def run(
     raw: bool = False,
     skipped: bool = False,
     plain: bool = False,
+    bibtex: bool = False,
     aux: Iterable[Word] = (),
     raises: bool = True,
 ) -> Answer:
     """Runs a command over the bytes of a file, and answers as the program does.
 
-    ``number`` is that of ``--steps`` or ``--min-crossrefs``. ``aux`` names the aux files whose keys are among the arguments: no
+    ``number`` is that of ``--steps`` or ``--min-crossrefs``. ``bibtex`` makes ``show``, ``cite``, ``json`` and ``ris`` answer as BibTeX
+    does, and ``depth`` then has no effect. ``aux`` names the aux files whose keys are among the arguments: no
     file is read, so ``lint`` finds no key that a document cites and no entry has. A refusal raises an Error, unless ``raises`` is
     False. Status 1 of ``lint``, of ``diff`` and of ``cite`` with ``strict`` is no refusal. ``diff`` takes the name of the new file,
     by which messages call it, and the new file as ``input``.
@@ -70,6 +72,7 @@ def run(
         raw,
         skipped,
         plain,
+        bibtex,
     )
     words, names = [to_bytes(arg) for arg in args], [to_bytes(name) for name in aux]
     return _answer(_running.run(to_bytes(command), words, _within(options), names, data, journal, input), raises)

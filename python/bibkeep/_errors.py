@@ -42,7 +42,8 @@ class Error(Exception):
 
 
 class ParseError(Error, ValueError):
-    """The bytes are no BibTeX file that can be opened (1 to 9), or no RIS text that can be added (61 to 65)."""
+    """The bytes are no BibTeX file that can be opened (1 to 9), no file that BibTeX is sure to read so (14), or no RIS text that can be
+    added (61 to 65)."""
 
 
 class NoSuchEntry(Error, KeyError):
@@ -77,7 +78,7 @@ class FileChanged(Exception):
 
 def kind_of(number: int) -> Type[Error]:
     """The exception of the faults with this number."""
-    if number <= 9 or 61 <= number <= 65:
+    if number <= 9 or number == 14 or 61 <= number <= 65:
         return ParseError
     if number == 11:
         return NoSuchEntry

@@ -46,6 +46,7 @@ class RawOptions(ctypes.Structure):
         ("raw", c_int),
         ("skipped", c_int),
         ("plain", c_int),
+        ("bibtex", c_int),
         ("aux", POINTER(Lent)),
         ("aux_count", c_size_t),
     ]
@@ -67,6 +68,7 @@ class Options(NamedTuple):
     raw: bool = False
     skipped: bool = False
     plain: bool = False
+    bibtex: bool = False
 
 
 class Ran(NamedTuple):

@@ -169,6 +169,7 @@ typedef struct {
     int raw;                  /* --raw */
     int skipped;              /* --skipped */
     int plain;                /* --plain */
+    int bibtex;               /* --bibtex, over one file; depth is needed, but has no effect then */
     const bibkeep_bytes *aux; /* the names of the aux files whose keys are among the arguments; lint makes nothing of them */
     size_t aux_count;
 } bibkeep_options;

@@ -4,11 +4,14 @@ from random import Random
 
 from cited import Entry, folded, listed
 from made import PLAIN_CROSSREF
+from report import LEFT_OUT
 from rules import CITING
-from style import style_for, told
+from style import style_for, told, uses_journals
 
 NO_RULES = frozenset()
 GREATEST_DEPTH = 8
+# Of so many entries of a file it is compared what `show --bibtex` says.
+SHOWN = 4
 
 
 def compare_file(report, bibtex, bibkeep, file, seed, count):
@@ -30,7 +33,11 @@ def compare_file(report, bibtex, bibkeep, file, seed, count):
     for cited, minimum in lists_of(keys, seed, count):
         where = f"{file.name}, {b' '.join(cited).decode()}, at least {minimum}"
         compare_cite(report, bibkeep, where, ours, cited, minimum)
-        compare_bibtex(report, bibtex, where, style, theirs, cited, minimum)
+        answer = compare_bibtex(report, bibtex, where, style, theirs, cited, minimum)
+        if has_option(file):
+            compare_option(report, bibkeep, where, style, answer, cited, minimum)
+    if has_option(file):
+        compare_shown(report, bibtex, bibkeep, file, style, keys, seed)
 
 
 def entry_of(record, key):
@@ -109,6 +116,37 @@ def compare_bibtex(report, bibtex, where, style, entries, keys, minimum):
         return [told(record, style) for record in it.records], sorted(it.unknown)
 
     report.compare("lists of BibTeX", where, (answer.records, unknown), wanted, CITING)
+    return answer
+
+
+# ---- the option `--bibtex`
+
+
+def has_option(file):
+    """Whether `--bibtex` can be compared by the style of months: several files have no such option."""
+    return isinstance(file.text, bytes) and not uses_journals(file.text)
+
+
+def compare_option(report, bibkeep, where, style, answer, keys, minimum):
+    """What the option lists is what BibTeX lists, without any rule."""
+    missing = {folded(key) for key in answer.unknown}
+    unknown = [key for key in keys if folded(key) in missing]
+    found = bibkeep.cite_as_bibtex(keys, minimum)
+    wanted = [(it.key, it.parent) for it in answer.records], unknown
+    report.expect("`cite --bibtex`", where, found, LEFT_OUT if found is None else wanted)
+    if minimum == 2 and not unknown:
+        found = bibkeep.json_as_bibtex(keys)
+        told_of_all = None if found is None else [told(record, style) for record in found]
+        report.expect("`json --bibtex`", where, told_of_all, LEFT_OUT if found is None else answer.records)
+
+
+def compare_shown(report, bibtex, bibkeep, file, style, keys, seed):
+    """What the option shows of an entry is the first record that BibTeX lists for its key alone."""
+    citable = sorted({key for key in keys if is_citable(key)})
+    for key in Random(seed).sample(citable, min(SHOWN, len(citable))):
+        found = bibkeep.show_as_bibtex(key)
+        wanted = LEFT_OUT if found is None else bibtex.answer([key], 1).records[0]
+        report.expect("`show --bibtex`", f"{file.name}, {key.decode()}", found and told(found, style), wanted)
 
 
 def lists_of(keys, seed, count):

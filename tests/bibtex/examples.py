@@ -3,7 +3,8 @@
 from typing import NamedTuple, Optional
 
 from programs import Record
-from style import style_for
+from report import LEFT_OUT
+from style import JOURNALS as MACROS, style_for
 
 ALL = [b"*"]
 LONG = b"n" * 256
@@ -112,6 +113,17 @@ CITED = [
     Cited("goes-on-after-faults", b"@misc{a, t = {x}, u = }\n@misc{b}\n\n", ALL, 2, None, [misc(b"a", t=b"x"), misc(b"b")]),
     Cited("goes-on-after-faults", b"@string{m = {x}, n}\n@misc{b, t = m}\n\n", ALL, 2, None, [misc(b"b", t=b"x")]),
 ]
+# What is not plain.
+REFUSED = [
+    b"@misc{a,\n t = 1}@misc{b}\n",
+    b"joe@x.org @misc{b}\n",
+    b"@misc{a}@misc{a, t = {@misc{b}}}\n\n",
+    b"@m@isc{b}\n\n",
+    b"@mi\x7fsc{b}\n\n",
+    b"@%s{b}\n\n" % LONG,
+]
+# An entry that has each of the macros, in a field of its own.
+JOURNALS = b"@misc{a, %s}\n\n" % b", ".join(b"x%d = %s" % it for it in enumerate(MACROS))
 PRINTED = [
     Printed("more-templates", b"Jean Knuth", b"{FF} {ll{{x}}}", None, b"Jean Knuth"),
     Printed("more-commas", b"a, b, c, d", b"{ff}|{vv}|{ll}|{jj}", None, b"c~d||a|b"),
@@ -134,6 +146,16 @@ def compare_examples(report, bibtex, bibkeep):
         bibtex.takes(it.file, style_for(it.file))
         found = bibtex.answer(it.keys, it.minimum).records
         report.compare("examples by BibTeX", where, found, lambda rules: it.theirs if rules else it.ours, [it.rule])
+        if opens:
+            by_option = bibkeep.cite_as_bibtex(it.keys, it.minimum)
+            listed = [(record.key, record.parent) for record in it.theirs]
+            report.expect("examples by `--bibtex`", where, by_option and by_option[0], LEFT_OUT if by_option is None else listed)
+    for it in REFUSED:
+        bibkeep.takes(it)
+        report.expect("files that `--bibtex` refuses", repr(it), bibkeep.cite_as_bibtex(ALL), None)
+    bibkeep.takes(JOURNALS)
+    bibtex.takes(JOURNALS, style_for(JOURNALS, journals=True))
+    report.expect("macros of journals", "all twenty", bibkeep.show_as_bibtex(b"a"), bibtex.answer([b"a"], 1).records[0])
     for it in PRINTED:
         where = f"{it.name.decode()} by {it.template.decode()}"
         file = b"@misc{a, author = {" + it.name + b"}}\n\n"

@@ -32,12 +32,36 @@ from pages import pages_of  # noqa: E402
 
 
 def found_files(program):
-    """Each file once. BibTeX takes one command from the last line of a file, so two line ends are put after it."""
+    """Each file once, but for those of which BibTeX reads a repeated entry as text. It takes one command from the last line of a file,
+    so two line ends are put after it."""
     texts = {}
     for name, text in [*files_in_tree(), *texts_of_tests(), *files_of_pages(program)]:
-        if len(text) <= LIMIT:
+        if len(text) <= LIMIT and not has_at_sign_in_repeated_entry(text):
             texts.setdefault(text + b"\n\n", name)
     return [File(name, text, plain(text)) for text, name in texts.items()]
+
+
+def has_at_sign_in_repeated_entry(text):
+    """Whether an entry whose key stands before it has an at-sign behind its key."""
+    seen = set()
+    for head in HEAD.finditer(text):
+        if head.group(2).lower() not in NO_ENTRY:
+            key = head.group()[len(head.group(1) + (head.group(3) or head.group(4))) :].lower()
+            if key in seen and b"@" in body_of(text, head):
+                return True
+            seen.add(key)
+    return False
+
+
+def body_of(text, head):
+    """What an entry has behind its key, up to its own closing brace or parenthesis, or all that is left."""
+    depth, is_braced = 0, head.group(3) is not None
+    for place in range(head.end(), len(text)):
+        byte = text[place : place + 1]
+        if depth == 0 and byte == (b"}" if is_braced else b")"):
+            return text[head.end() : place]
+        depth += (byte == b"{") - (byte == b"}")
+    return text[head.end() :]
 
 
 def plain(text):

@@ -1,5 +1,6 @@
 """BibTeX and bibkeep, as they answer about a file."""
 
+import json
 import os
 import re
 import subprocess
@@ -16,6 +17,9 @@ REPORTS = {
 FAULT = re.compile(rb"(?!.*entry type---|I was expecting a `{' or a `\('---|Repeated entry---).*---line (\d+) of file file.bib")
 FAULT_LINE = re.compile(rb"^.*:(\d+):\d+: error: ", re.M)
 PLACE = re.compile(rb"bibkeep: [1-7] \w+ at (\d+)\n")
+# What `--bibtex` refuses though a list could be answered: a file that BibTeX may read otherwise, a chain that is too long, and, in
+# JSON, bytes that are not UTF-8.
+REFUSED = re.compile(rb"bibkeep: (14 NotPlain at \d+|15 TooDeep|24 NotUtf8 in .*)\n", re.S)
 
 
 class Record(NamedTuple):
@@ -174,3 +178,41 @@ class Bibkeep:
 
     def names(self, key, template):
         return self.lines("names", key, template)
+
+    # ---- as BibTeX lists them: nothing where that is refused
+
+    def show_as_bibtex(self, key):
+        lines = self.lines_as_bibtex("show", key)
+        if lines is None:
+            return None
+        kind, spelled = lines[0][1:].split(b" ", 1)
+        fields = dict(line.split(b" = ", 1) for line in lines[1:])
+        return Record(kind, spelled, fields.pop(b"crossref", None), fields)
+
+    def cite_as_bibtex(self, keys, minimum=2):
+        lines = self.lines_as_bibtex("cite", *keys, options=["--min-crossrefs", str(minimum)])
+        if lines is None:
+            return None
+        listed = [line for line in lines if not line.startswith(b"? ")]
+        unknown = [line[2:] for line in lines if line.startswith(b"? ")]
+        return [tuple((line.split(b"\t") + [None])[:2]) for line in listed], unknown
+
+    def json_as_bibtex(self, keys):
+        lines = self.lines_as_bibtex("json", *keys)
+        return None if lines is None else [record_in(line) for line in lines]
+
+    def lines_as_bibtex(self, command, *words, options=()):
+        ran = self.run(command, *words, options=["--bibtex", *options])
+        if ran.returncode == 1 and REFUSED.fullmatch(ran.stderr) and not ran.stdout:
+            return None
+        return ran.stdout.split(b"\n")[:-1] if ran.returncode == 0 else [b"@refused " + ran.stderr]
+
+
+def record_in(line):
+    """The record in an object of `json`, or what was said instead."""
+    if not line.startswith(b"{"):
+        return Record(None, line, None, {})
+    told = json.loads(line)
+    fields = {name.encode(): text.encode() for name, text in told["fields"].items()}
+    parent = told["parent"]
+    return Record(told["type"].encode(), told["key"].encode(), None if parent is None else parent.encode(), fields)

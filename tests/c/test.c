@@ -195,7 +195,13 @@ static void commands(void) {
     CHECK(bibkeep_run(h, text("ris"), &all, 1, &o, text("@misc{a, title = {{B}}}"), NULL, text(""), &a, &e) == 0);
     CHECK(is(a.output, "TY  - GEN\nTI  - B\nID  - a\nER  - \n"));
     CHECK(bibkeep_run(h, text("json"), &all, 1, &o, text(REFS), NULL, text(""), &a, &e) == BIBKEEP_MISUSE && a.status == 2);
-    o.plain = 0, o.raw = 1;
+    o.plain = 0, o.bibtex = 1;
+    CHECK(bibkeep_run(h, text("show"), (bibkeep_bytes[]){text("c")}, 1, &o, text("@misc{p, t = 1}@misc{c, crossref = {p}}\n\n"), NULL, text(""), &a, &e) == 0);
+    CHECK(is(a.output, "@misc c\n"));
+    CHECK(bibkeep_run(h, text("json"), &all, 1, &o, text("@misc{a,\n t=1}@misc{b}\n"), NULL, text(""), &a, &e) == 14 && a.status == 1);
+    CHECK(e.has_offset && e.offset == 14 && is(a.message, "bibkeep: 14 NotPlain at 14\n"));
+    CHECK(bibkeep_run(h, text("labels"), &all, 1, &o, text(REFS), NULL, text(""), &a, &e) == BIBKEEP_MISUSE && a.status == 2);
+    o.bibtex = 0, o.raw = 1;
     CHECK(bibkeep_run(h, text("json"), &all, 1, &o, text(REFS), NULL, text(""), &a, &e) == 0 && a.status == 0);
     CHECK(bibkeep_run(h, text("labels"), &all, 1, &o, text(REFS), NULL, text(""), &a, &e) == BIBKEEP_MISUSE && a.status == 2);
     o.raw = 0, o.depth = 0, o.latex = 1;
@@ -229,6 +235,8 @@ static void commands(void) {
     o = (bibkeep_options){.depth = 1};
     CHECK(bibkeep_run_files(h, text("show"), (bibkeep_bytes[]){text("a")}, 1, &o, files, 3, &a, &e) == 0);
     CHECK(is(a.output, "@misc a\nt = x\ny = 2\ncrossref = b\n"));
+    o.bibtex = 1;
+    CHECK(bibkeep_run_files(h, text("show"), (bibkeep_bytes[]){text("a")}, 1, &o, files, 3, &a, &e) == BIBKEEP_MISUSE && a.status == 2);
     CHECK(bibkeep_run_files(h, text("check"), NULL, 0, NULL, files, 3, &a, &e) == 0);
     CHECK(is(a.output, "items 3\nentries 2\nmacros 1\npreambles 0\ncomments 0\n"));
     CHECK(bibkeep_run_files(h, text("lint"), NULL, 0, NULL, files + 1, 1, &a, &e) == 0 && a.status == 1 && !memcmp(a.output.data, "a.bib:1:", 8));

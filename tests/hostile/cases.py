@@ -189,6 +189,8 @@ PARENTS = (
 )
 RING = b"@misc{c,crossref={b}}@misc{b,x=1,crossref={a}}@misc{a,x=2,y=3,crossref={c}}"
 CHAIN = b"@misc{p,crossref={q}}@misc{q,crossref={r}}@misc{r,year=1999}"
+EARLY = b"@misc{p, year = 2001}@misc{c, t = cacm, crossref = {p}}\n\n"
+DEEP = b"@misc{k0}" + b"".join(b"@misc{k%d, crossref = {k%d}}" % (n, n - 1) for n in range(1, 66)) + b"\n\n"
 BOOKS = (
     b"@misc{Lam86, author = {Donald E. Knuth}, year = 1984}\n"
     b"@misc{Knu84, author = {Leslie Lamport}, year = 1986, crossref = {lam86}}\n"
@@ -259,6 +261,18 @@ READING = [
     Case(("newkeys", FILE), BOOKS, output=b"Lam86\tKnu84\nKnu84\tLam86\n"),
     Case(("ris", FILE, "--dropped", "a"), b"@misc{a, t = 1, year = 2000}", output=b"a\tt\n"),
     Case(("ris", FILE, "--plain", "a"), b"@misc{a, title = {{\\'e}}}", output=b"TY  - GEN\nTI  - \xc3\xa9\nID  - a\nER  - \n"),
+    Case(("show", FILE, "--bibtex", "c"), EARLY, output=b"@misc c\nt = Communications of the ACM\n"),
+    Case(("cite", FILE, "--bibtex", "C", "zz", "p"), EARLY, output=b"C\tp\np\n? zz\n"),
+    Case(
+        ("json", FILE, "--bibtex", "*"),
+        EARLY,
+        output=b'{"type":"misc","key":"p","parent":null,"fields":{"year":"2001"}}\n'
+        b'{"type":"misc","key":"c","parent":"p","fields":{"t":"Communications of the ACM","year":"2001"}}\n',
+    ),
+    Case(("ris", FILE, "--bibtex", "c", "p"), EARLY, output=b"TY  - GEN\nPY  - 2001///\nID  - c\nER  - \nTY  - GEN\nPY  - 2001///\nID  - p\nER  - \n"),
+    Case(("cite", FILE, "--bibtex", "*"), b"@misc{a,\n t=1}@misc{b}", status=1, message=b"bibkeep: 14 NotPlain at 14\n"),
+    Case(("cite", FILE, "--bibtex", "*"), DEEP, status=1, message=b"bibkeep: 15 TooDeep\n"),
+    Case(("show", FILE, "--bibtex", "a"), b"@misc{a,,}", status=1, message=b"bibkeep: 2 ExpectedName at 8\n"),
     Case(("labels", FILE, "--depth", "2", "p"), CHAIN, output=b"anon99\tp\n"),
     Case(("ris", FILE, "k1"), KING, output=KING_RIS),
     Case(

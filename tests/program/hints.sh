@@ -77,6 +77,15 @@ when_edited retype knuth book; hinted '71 BadScript' '  retype is no edit
 when_edited drop knuth; hinted '71 BadScript' '  its words are: drop KEY FIELD
   bibkeep help edit says more'
 when explain --hints foo; ends_with 1; hinted '13 NoSuchFault' '  foo is neither the number nor the name of a fault'
+given last.bib '@misc{a,\n  t = 1}@misc{b}\n'
+when cite last.bib --hints --bibtex '*'; ends_with 1; hinted '14 NotPlain at 17' '  last.bib, line 2, column 9
+  the line: t = 1}@misc{b}
+  in the last line of the file: echo >> last.bib ends the file with an empty line
+  in an entry whose key an earlier entry has: take this entry out'
+when json hinted.bib --hints --bibtex '*' nobody; ends_with 1; hinted '11 NoSuchEntry' "  no entry of hinted.bib has the key nobody
+  bibkeep cite hinted.bib '*' lists the keys"
+when show hinted.bib --hints --bibtex '*'; ends_with 1; hinted '11 NoSuchEntry' "  no entry of hinted.bib has the key *
+  bibkeep cite hinted.bib '*' lists the keys"
 when undo hinted.bib --hints; ends_with 1; hinted '51 NothingToUndo' '  bibkeep log hinted.bib lists the changes'
 
 # A position: what it may be, and which key it names.

@@ -47,7 +47,7 @@ def case(chance):
     good = [b"@misc{a, t = 1}\n", b"@misc{b, crossref = {a}}\n", b"@string{m = {x}}\n", b"@misc{A, t = m}\n", b"@misc{k\x1b[31m, t = 1, T = 2}\n", b"@misc{$(id)}\n"]
     file = b"".join(chance.choice(good) if chance.random() < 0.9 else chance.choice(items)() for _ in range(chance.randrange(8)))
     edit = lambda: [chance.choice(VERBS)] + [chance.choice([name, value, lambda: b"2"])() for _ in range(chance.randrange(5))]  # noqa: E731
-    kind = chance.randrange(7)
+    kind = chance.randrange(8)
     if kind == 0:
         words = [word for word in edit() if b"\0" not in word]
         return [b"edit", b"f.bib", b"--", *words], file, b""
@@ -61,6 +61,8 @@ def case(chance):
         return [chance.choice([b"check", b"lint", b"cat", b"undo", b"log", b"forget"]), b"f.bib"], file, b""
     if kind == 5:
         return [chance.choice([b"show", b"json", b"cite", b"extract"]), b"f.bib", chance.choice([b"--before=f.bib", b"--after=no.bib"]), b"--", name()], file, b""
+    if kind == 6:
+        return [chance.choice([b"show", b"json", b"ris", b"cite"]), b"f.bib", b"--bibtex", b"--", name()], file, b""
     return [b"names", b"f.bib", b"--", name(), value()], file, b""
 
 

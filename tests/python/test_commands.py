@@ -39,6 +39,10 @@ RUNS = [
     ("ris", {}, ["*"]),
     ("ris", {"dropped": True}, ["*"]),
     ("ris", {"plain": True}, ["*"]),
+    ("show", {"bibtex": True}, ["ld86"]),
+    ("cite", {"bibtex": True}, ["LD86", "nobody"]),
+    ("json", {"bibtex": True}, ["*"]),
+    ("ris", {"bibtex": True, "plain": True}, ["*"]),
     ("show", {}, ["podc"]),
     ("entry", {}, ["a"]),
     ("entry", {"at": True}, ["a", "a"]),
@@ -49,7 +53,7 @@ RUNS = [
     ("names", {}, ["x", "{ff"]),
 ]
 
-OPTIONS = {"depth": "--depth", "number": "--min-crossrefs", "dropped": "--dropped", "at": "--at", "strict": "--strict", "raw": "--raw", "plain": "--plain"}
+OPTIONS = {"depth": "--depth", "number": "--min-crossrefs", "dropped": "--dropped", "at": "--at", "strict": "--strict", "raw": "--raw", "plain": "--plain", "bibtex": "--bibtex"}
 
 
 class Commands(unittest.TestCase):
@@ -160,7 +164,7 @@ class Commands(unittest.TestCase):
                 pathlib.Path(path).write_bytes(text)
             for before, own, after in ((0, 6, ()), (0, 1, (5, 6)), (6, 0, (0,)), (0, 2, (6,)), (3, 0, ()), (5, 4, (2,))):
                 for command, options, words in RUNS:
-                    if command in ("cat", "entry"):
+                    if command in ("cat", "entry") or "bibtex" in options:
                         continue
                     with self.subTest(command=command, options=options, words=words, files=(before, own, after)):
                         flags = [flag for it in after for flag in ("--after", paths[it])]

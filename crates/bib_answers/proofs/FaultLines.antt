@@ -1,5 +1,5 @@
 -- The lines of faults of reading, and which faults those are.
-use Rattle.bib_answers.proofs.Words.{◌≡◌, ◌≢◌, ◌<◌, ◌≤◌, ◌+◌, ℕ, true, false, List, [], ◌∷◌, ◌==◌, sym, ap, ap₂, ◌∙◌, append-nil, flat_map, flat_map_more, length, take, take_more, get_or, map, Text, IsReadFault, Written, answer_of}
+use Rattle.bib_answers.proofs.Words.{◌≡◌, ◌≢◌, ◌<◌, ◌≤◌, ◌+◌, ℕ, true, false, List, [], ◌∷◌, ◌==◌, sym, ap, ap₂, ◌∙◌, append-nil, flat_map, flat_map_more, length, take, take_more, get_or, map, Text, IsReadFault, answer_of}
 use Rattle.std.proofs.Common.{inl, inr, refl, nat_lt, arith, zero-add, ◌++◌}
 use Rattle.std.proofs.lemmas.Bool.{ltb-true, ltb-false, false≢true}
 use Rattle.bib_spec.specs.Bytes.{file_limit}
@@ -10,7 +10,7 @@ use Rattle.bib_store.specs.Readings.{IsOpenFault}
 use Rattle.bib_faults.specs.GoingOn.{Fault}
 use Rattle.bib_faults.specs.Told.{told}
 use Rattle.bib_answers.specs.Positions.{position_of}
-use Rattle.bib_answers.specs.Lint.{error_line, fault_line, fault_lines, name_at, place_at, IsFaultAnswer, IsLintAnswer, reading, other, faulty, refused}
+use Rattle.bib_answers.specs.Lint.{error_line, fault_line, fault_lines, IsFaultAnswer, IsLintAnswer, reading, other, faulty, refused}
 use Rattle.bib_answers.specs.declared.answers.Answer.{Answer}
 use Rattle.bib_shelf.specs.Joined.{AreJoined}
 use Rattle.aux_text.specs.declared.placing.AuxKeys.{AuxKeys}

@@ -1,5 +1,5 @@
 -- The findings in an item, by its view.
-use Rattle.bib_answers.proofs.Words.{◌≡◌, ◌∙◌, ℕ, Bool, true, false, List, [], ◌++◌, refl, sym, ap, false≢true, Text, Tree, CommentTree, DefinitionTree, PreambleTree, EntryTree, Reading, Macros, months, macros_at, entries_of, is_repeated, View, Field, fields_of, kind_of, key_of, is_entry_tree, assigned}
+use Rattle.bib_answers.proofs.Words.{◌≡◌, ◌∙◌, ℕ, Bool, true, false, List, [], ◌++◌, refl, sym, ap, false≢true, Tree, CommentTree, DefinitionTree, PreambleTree, EntryTree, Reading, Macros, months, macros_at, entries_of, is_repeated, View, Field, fields_of, kind_of, key_of, is_entry_tree, assigned}
 use Rattle.bib_answers.proofs.Words.{defined_in, entries_before, Finding, field_findings, crossrefs_of, Written, with_findings}
 use Rattle.std.proofs.Math.Path.{fun_ext}
 use Rattle.bib_spec.specs.Tree.{Value}

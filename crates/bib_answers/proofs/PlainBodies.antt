@@ -1,11 +1,11 @@
 -- Entries that are ASCII: so are their type names, their keys and their fields.
-use Rattle.bib_answers.proofs.Words.{◌≡◌, ℕ, Bool, true, List, [], ◌∷◌, ◌++◌, sym, ap, subst, false≢true, flat_map, Text, Tree, CommentTree, DefinitionTree, PreambleTree, EntryTree, View, view_of, kind_of, is_entry_tree, Reading}
+use Rattle.bib_answers.proofs.Words.{◌≡◌, ℕ, true, List, [], ◌∷◌, ◌++◌, sym, subst, false≢true, flat_map, Text, Tree, CommentTree, DefinitionTree, PreambleTree, EntryTree, View, view_of, is_entry_tree, Reading}
 use Rattle.std.proofs.Common.{count_by, arith}
 use Rattle.bib_spec.specs.Bytes.{at_sign, comma, equals_sign}
-use Rattle.bib_spec.specs.Tree.{Row, Entry, Head, Opening, tree_bytes, entry_bytes, after_key_bytes, opening_bytes, head_bytes, open_byte, close_byte, row_bytes, assignment_bytes, value_bytes, last_comma_bytes}
+use Rattle.bib_spec.specs.Tree.{Row, Entry, tree_bytes, entry_bytes, after_key_bytes, opening_bytes, head_bytes, open_byte, close_byte, row_bytes, assignment_bytes, value_bytes, last_comma_bytes}
 use Rattle.bib_scan.specs.View.{fields_after}
-use Rattle.bib_persons.proofs.Counts.{count-append, count-cons}
-use Rattle.bib_answers.specs.Plain.{is_other, IsPlain, ArePlain, IsPlainHead}
+use Rattle.bib_persons.proofs.Counts.{count-append}
+use Rattle.bib_answers.specs.Plain.{is_other, ArePlain, IsPlainHead}
 use Rattle.bib_answers.proofs.ItemFields.{IsViewed}
 
 front_plain : (s t : Text) → count_by is_other (s ++ t) ≡ 0 → count_by is_other s ≡ 0

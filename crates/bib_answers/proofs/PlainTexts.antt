@@ -1,7 +1,7 @@
 -- Texts in which nothing is found: ASCII is UTF-8, and what a value says without a macro is in its bytes.
-use Rattle.bib_answers.proofs.Words.{◌≡◌, ◌∙◌, ℕ, zero, suc, ◌+◌, ◌<◌, ◌≤◌, Bool, true, false, cond, cond-true, cond-false, not, map, List, [], ◌∷◌, ◌++◌, refl, sym, ap, list_any, ⊎_elim, cases_Bool, Text, Field, Part, Macros}
+use Rattle.bib_answers.proofs.Words.{◌≡◌, ◌∙◌, ℕ, zero, suc, ◌+◌, ◌<◌, ◌≤◌, Bool, true, false, cond, cond-true, cond-false, not, map, List, [], ◌∷◌, ◌++◌, refl, ap, list_any, ⊎_elim, cases_Bool, Text, Field, Part, Macros}
 use Rattle.std.proofs.Common.{count_by, arith}
-use Rattle.std.specs.Prelude.{◌&&◌, ◌||◌}
+use Rattle.std.specs.Prelude.{◌||◌}
 use Rattle.std.specs.Char.{is_ascii}
 use Rattle.std.specs.List.{flat_map}
 use Rattle.std.specs.Str.{is_utf8, IsAscii}
@@ -9,7 +9,7 @@ use Rattle.std.proofs.lemmas.Bool.{ltb-true, true≢false}
 use Rattle.std.proofs.lemmas.Str.{IsUtf8-from_ascii, is_utf8-from_IsUtf8}
 use Rattle.bib_spec.specs.Bytes.{open_brace, close_brace, quote, hash}
 use Rattle.bib_spec.specs.Tree.{Braced, Quoted, Digits, Macro, Value, Link, part_bytes, link_bytes, value_bytes}
-use Rattle.bib_spec.specs.Texts.{field_text, part_text, parts_of, raw_text}
+use Rattle.bib_spec.specs.Texts.{field_text, part_text, raw_text}
 use Rattle.bib_persons.specs.Persons.{is_comma_byte, has_names, refused_names}
 use Rattle.bib_persons.proofs.Counts.{count-cons, count-append, count-field_text}
 use Rattle.bib_answers.specs.declared.warnings.Warning.TheVariants.{ManyCommas}

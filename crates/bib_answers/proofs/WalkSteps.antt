@@ -1,5 +1,5 @@
 -- Positions that are counted item by item.
-use Rattle.bib_answers.proofs.Words.{⊎_elim, ◌≡◌, ◌∙◌, ℕ, zero, suc, ◌+◌, ◌-◌, ◌≤◌, ◌<◌, ◌^◌, List, [], ◌∷◌, ◌++◌, length, take, drop, fold, min, Some, slice_get, slice_get-map, option_map, refl, sym, ap, ap₂, subst, append_assoc, take_all, Text, Item, Reading, Position, position, position_after, OfReading, IsKnown, View, view_of}
+use Rattle.bib_answers.proofs.Words.{⊎_elim, ◌≡◌, ◌∙◌, ℕ, ◌+◌, ◌-◌, ◌≤◌, ◌<◌, ◌^◌, List, [], ◌∷◌, ◌++◌, length, take, drop, fold, min, Some, slice_get, slice_get-map, option_map, refl, sym, ap, ap₂, subst, append_assoc, take_all, Text, Item, Reading, Position, position, position_after, OfReading, View, view_of}
 use Rattle.std.proofs.Common.{slice_index_or, ◌⊎◌, inl, inr, arith, append-nil, length-append, drop-drop}
 use Rattle.std.specs.List.{flat_map}
 use Rattle.std.proofs.Math.Seq.{take-add, take-append_seam, drop-append_seam}
@@ -17,10 +17,8 @@ use Rattle.bib_store.specs.Readings.{IsItemNumber}
 use Rattle.bib_spec.specs.Texts.{IsOpenable}
 use Rattle.bib_extract.proofs.WrittenItems.{slice_get-within}
 use Rattle.bib_shelf.specs.Joined.{files_in}
-use Rattle.bib_answers.specs.Positions.{position_of}
 use Rattle.bib_answers.specs.Walking.{IsSpot, clip, stretch}
 use Rattle.bib_answers.specs.declared.walking.Spot.{Spot}
-use Rattle.bib_answers.specs.declared.positions.Known.{Known}
 use Rattle.bib_answers.proofs.PositionSteps.{near}
 
 -- ---- stretches

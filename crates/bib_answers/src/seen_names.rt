@@ -17,6 +17,17 @@ const FEW: usize = 64;
 /// How many bytes of an item there are for each bucket of its filter.
 const BYTES_A_BUCKET: usize = 2;
 
+/// Whether two names are the same, folded. Most names differ in their first byte, and of these no other byte is looked at.
+#[inline(always)]
+fn is_same(name: &[u8], other: &[u8]) -> bool
+    ensures { result ≡ same name.now other.now }
+{
+    match (name, other) {
+        ([a, ..], [b, ..]) if !a.eq_ignore_ascii_case(b) => false,
+        _ => same_folded(name, other),
+    }
+}
+
 /// The names of an item's fields that were seen, without regard to ASCII case. The first 64 are compared one by one, and take
 /// memory for their places alone. If there are more, a filter of all names of the item is made, and a map takes only those
 /// later names that the item may have twice by the filter.
@@ -87,7 +98,12 @@ impl<'a> SeenNames<'a> {
     fn is_few(&self, name: &[u8]) -> bool
         ensures { result ≡ list_any (λ few. same name.now few.now) self.now.few.items }
     {
-        self.few.iter().any(|few| same_folded(name, few))
+        'few: for few in self.few.as_slice() {
+            if is_same(name, few) {
+                return true;
+            }
+        }
+        false
     }
 
     /// Whether the name is in the map.

@@ -28,6 +28,7 @@ command_of name words aux others options = record {
   raw = options.raw;
   skipped = options.skipped;
   plain = options.plain;
+  bibtex = options.bibtex;
 }
 
 -- the same of lists that there are

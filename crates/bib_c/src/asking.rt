@@ -24,6 +24,7 @@ pub struct Options {
     pub raw: bool,
     pub skipped: bool,
     pub plain: bool,
+    pub bibtex: bool,
 }
 
 /// The command with this name, these arguments and aux files, each as one text and lengths, and these options. There is none if a
@@ -117,5 +118,6 @@ fn command_of(
         raw: options.raw,
         skipped: options.skipped,
         plain: options.plain,
+        bibtex: options.bibtex,
     }
 }

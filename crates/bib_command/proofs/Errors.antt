@@ -8,7 +8,7 @@ use Rattle.clap.proofs.OnLiterals.{clap_on_literals}
 use Rattle.bib_command.specs.declared.usages.Usage.{Usage}
 use Rattle.bib_command.specs.CommandLine.{bibkeep}
 use Rattle.bib_command.specs.Usage as spec
-use Rattle.bib_command.specs.Usage.{no_memory, LackKeys, IsUsageOf, IsUsageFor, told}
+use Rattle.bib_command.specs.Usage.{no_memory, MatchNoCommand, IsUsageOf, IsUsageFor, told}
 
 -- clap's exact matching covers the command line
 pub bibkeep_is_simple : is_simple_and_free bibkeep ≡ true
@@ -27,7 +27,7 @@ pub usage_for : (words : List Text) (error : Error) (usage : Usage) → HasKind 
 usage_for words error usage (inl memory) of = spec.memory (usage_of_memory (kind_of error) usage of memory)
 usage_for words error usage (inr among) of = told (kind_of error) among of
 
--- the usage of words that lack keys is a mistake, or memory ran out
-pub keyless_usage : (words : List Text) (usage : Usage) → LackKeys words → (usage.status ≡ 2) ⊎ (usage ≡ no_memory) → IsUsageFor words usage
-keyless_usage words usage lack (inl mistake) = spec.keyless lack mistake
-keyless_usage words usage lack (inr memory) = spec.memory memory
+-- the usage of words that match and name no command is a mistake, or memory ran out
+pub matched_usage : (words : List Text) (usage : Usage) → MatchNoCommand words → (usage.status ≡ 2) ⊎ (usage ≡ no_memory) → IsUsageFor words usage
+matched_usage words usage none (inl mistake) = spec.matched none mistake
+matched_usage words usage none (inr memory) = spec.memory memory

@@ -1,5 +1,6 @@
 pub mod LineSteps
 pub mod Subcommands
+pub mod Sources
 pub mod Errors
 pub mod Numbers
 pub mod Switches

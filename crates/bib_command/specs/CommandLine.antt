@@ -1,5 +1,5 @@
 -- The command line in clap's words, and the command that its matches name. (clap)
-use Rattle.std.specs.Prelude.{◌≡◌, ℕ, Bool, true, false, ◌&&◌, ◌++◌, ◌^◌, List, [], ◌∷◌, Some, unwrap_or, codes, pos, length, nat_lt, if◌then◌else◌}
+use Rattle.std.specs.Prelude.{◌≡◌, ℕ, Bool, true, false, ◌&&◌, ◌||◌, ◌++◌, ◌^◌, List, [], ◌∷◌, Option, Some, unwrap_or, find, option_and_then, codes, pos, length, nat_lt, if◌then◌else◌}
 use Rattle.std.specs.List.{list_all}
 use Rattle.std.specs.Char.{digit_value}
 use Rattle.std.specs.Option.{option_map_or}
@@ -10,6 +10,8 @@ use Rattle.clap.specs.Lexer.{usize_max}
 use Rattle.clap.specs.Simple.{on_top}
 use Rattle.clap.specs.declared.builder.ValueParser.TheVariants as parser
 use Rattle.clap.specs.declared.builder.ArgAction.TheVariants.{Append, SetTrue}
+use Rattle.clap.specs.declared.parser.matches.ValueSource.{ValueSource}
+use Rattle.clap.specs.declared.parser.matches.ValueSource.TheVariants.{CommandLine}
 use Rattle.bib_words.specs.declared.commands.Command.{Command}
 
 -- ---- arguments
@@ -54,6 +56,10 @@ files_after = record (new_rule (codes "AFTER")) { long = Some (codes "after"); a
 abbrev pub switch : Text → Rule
 switch name = record (new_rule name) { long = Some name; action = Some SetTrue }
 
+-- `--bibtex`
+abbrev pub bibtex : Rule
+bibtex = switch (codes "bibtex")
+
 -- `--ignore CODE`: given any number of times
 abbrev pub ignore : Rule
 ignore = record (new_rule (codes "CODE")) { long = Some (codes "ignore"); action = Some Append }
@@ -96,17 +102,17 @@ check_line = over_files (codes "check")
 abbrev pub lint_line : App
 lint_line = with_rule (with_rule (over_files (codes "lint")) ignore) aux_files
 
--- `show F [--before FILE].. [--after FILE].. [--depth D] KEY`
+-- `show F [--before FILE].. [--after FILE].. [--depth D] [--bibtex] KEY`
 abbrev pub show_line : App
-show_line = with_rule (with_rule (over_files (codes "show")) (needed (codes "KEY"))) levels
+show_line = with_rule (with_rule (with_rule (over_files (codes "show")) (needed (codes "KEY"))) levels) bibtex
 
 -- a command over files with keys, those of aux files among them: `NAME F [--before FILE].. [--after FILE].. [--aux AUX].. [KEY..]`
 abbrev pub cited_line : Text → App
 cited_line name = with_rule (with_rule (over_files name) keys) aux_files
 
--- as above, `cite F [--min-crossrefs N] [--strict] [KEY..]`
+-- as above, `cite F [--min-crossrefs N] [--strict] [--bibtex] [KEY..]`
 abbrev pub cite_line : App
-cite_line = with_rule (with_rule (cited_line (codes "cite")) (count (codes "min-crossrefs") (codes "2"))) (switch (codes "strict"))
+cite_line = with_rule (with_rule (with_rule (cited_line (codes "cite")) (count (codes "min-crossrefs") (codes "2"))) (switch (codes "strict"))) bibtex
 
 -- `entry F [--at] KEY..`
 abbrev pub entry_line : App
@@ -116,9 +122,9 @@ entry_line = with_rule (with_rule (over_file (codes "entry")) needed_keys) (swit
 abbrev pub keys_line : Text → App
 keys_line name = with_rule (cited_line name) levels
 
--- as above, `json F [--depth D] [--raw] [KEY..]`
+-- as above, `json F [--depth D] [--raw] [--bibtex] [KEY..]`
 abbrev pub json_line : App
-json_line = with_rule (keys_line (codes "json")) (switch (codes "raw"))
+json_line = with_rule (with_rule (keys_line (codes "json")) (switch (codes "raw"))) bibtex
 
 -- `names F [--before FILE].. [--after FILE].. [--depth D] KEY TEMPLATE`
 abbrev pub names_line : App
@@ -148,9 +154,9 @@ insert_line = adding (with_rule (with_rule (over_file (codes "insert")) position
 abbrev pub steps_line : Text → App
 steps_line name = with_rule (with_rule (over_file name) (count (codes "steps") (codes "1"))) (switch (codes "print"))
 
--- as above, `ris F [--depth D] [--dropped] [--plain] [KEY..]`
+-- as above, `ris F [--depth D] [--dropped] [--plain] [--bibtex] [KEY..]`
 abbrev pub ris_line : App
-ris_line = with_rule (with_rule (keys_line (codes "ris")) (switch (codes "dropped"))) (switch (codes "plain"))
+ris_line = with_rule (with_rule (with_rule (keys_line (codes "ris")) (switch (codes "dropped"))) (switch (codes "plain"))) bibtex
 
 -- `import F [--print] [--new-journal] [--no-journal] [--latex]`
 abbrev pub import_texts_line : App
@@ -257,13 +263,32 @@ command_of name rows = record {
   raw = given (codes "raw") rows;
   skipped = given (codes "skipped") rows;
   plain = given (codes "plain") rows;
+  bibtex = given (codes "bibtex") rows;
 }
 
--- the words name this command by clap's exact matching
+-- whether a value is from the words themselves, not a default
+abbrev pub is_from_words : Option ValueSource → Bool
+is_from_words (Some CommandLine) = true
+is_from_words _ = false
+
+-- whether the words themselves give the argument
+abbrev pub is_said : Text → List Row → Bool
+is_said id rows = is_from_words (option_and_then (λ row. row.source) (find (λ row. bytes_eq row.id id) rows))
+
+-- whether the words give an option that does not go with `--bibtex`: `--depth`, `--raw`, `--before` or `--after`
+abbrev pub has_rival : List Row → Bool
+has_rival rows = is_said (codes "D") rows || (is_said (codes "raw") rows || (is_said (codes "BEFORE") rows || is_said (codes "AFTER") rows))
+
+-- whether the words give `--bibtex` and an option that does not go with it
+abbrev pub is_in_conflict : List Row → Bool
+is_in_conflict rows = given (codes "bibtex") rows && has_rival rows
+
+-- the words name this command by clap's exact matching, and its options go together
 pub record IsCommandOf (words : List Text) (c : Command) : Type 0 where
   pub name : Text
   pub rows : List Row
   pub named : subcommand_of bibkeep words ≡ Some (name, rows)
+  pub together : is_in_conflict rows ≡ false
   pub command : c ≡ command_of name rows
 
 -- the words ask for hints

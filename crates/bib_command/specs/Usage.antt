@@ -1,12 +1,12 @@
 -- The text and the status for words that name no command.
-use Rattle.std.specs.Prelude.{◌≡◌, ◌≢◌, ◌⊎◌, List, []}
-use Rattle.clap.specs.Words.{Text, IsAmong, fault_of}
+use Rattle.std.specs.Prelude.{◌≡◌, ◌≢◌, true, List, [], Some}
+use Rattle.clap.specs.Words.{Row, Text, IsAmong, fault_of, subcommand_of}
 use Rattle.clap.specs.declared.error.ErrorKind.{ErrorKind}
 use Rattle.clap.specs.declared.error.ErrorKind.TheVariants.{DisplayHelp, DisplayVersion, OutOfMemory}
 use Rattle.bib_command.specs.declared.usages.Usage.{Usage}
 use Rattle.bib_words.specs.declared.commands.Command.{Command}
 use Rattle.bib_words.specs.Command.{IsCommand}
-use Rattle.bib_command.specs.CommandLine.{bibkeep, IsCommandOf}
+use Rattle.bib_command.specs.CommandLine.{bibkeep, is_in_conflict, IsCommandOf}
 
 -- the answer without a text, if memory runs out
 abbrev pub no_memory : Usage
@@ -25,9 +25,21 @@ pub record LackKeys (words : List Text) : Type 0 where
   pub named : IsCommandOf words command
   pub unknown : ¬ IsCommand command
 
+-- the words match, but they give options that do not go together
+pub record AreInConflict (words : List Text) : Type 0 where
+  pub name : Text
+  pub rows : List Row
+  pub named : subcommand_of bibkeep words ≡ Some (name, rows)
+  pub conflict : is_in_conflict rows ≡ true
+
+-- the words match, but they name no command of the program
+pub data MatchNoCommand (words : List Text) : Type 0 where
+  keyless : LackKeys words → MatchNoCommand words
+  in_conflict : AreInConflict words → MatchNoCommand words
+
 -- The text and the status for words that name no command: those for the first fault that clap's exact matching meets, or a mistake if
--- the words match and lack keys.
+-- the words match.
 pub data IsUsageFor (words : List Text) (usage : Usage) : Type 0 where
   told : (kind : ErrorKind) → IsAmong kind (fault_of bibkeep words) → IsUsageOf kind usage → IsUsageFor words usage
-  keyless : LackKeys words → usage.status ≡ 2 → IsUsageFor words usage
+  matched : MatchNoCommand words → usage.status ≡ 2 → IsUsageFor words usage
   memory : usage ≡ no_memory → IsUsageFor words usage

@@ -2,7 +2,7 @@
 
 ghost use Rattle.std.specs.Prelude.{◌≡◌, false, codes};
 ghost use Rattle.clap.specs.Words.{rule_of};
-ghost use Rattle.bib_command.specs.CommandLine.{any_file, needed, keys, needed_keys, position, aux_files, files_before, files_after, edit_words, switch, ignore, count, levels};
+ghost use Rattle.bib_command.specs.CommandLine.{any_file, needed, keys, needed_keys, position, aux_files, files_before, files_after, edit_words, switch, bibtex, ignore, count, levels};
 
 use clap::{Arg, ArgAction, value_parser};
 use std::alloc::Global;
@@ -138,6 +138,14 @@ pub fn no_journal<'a>(alloc: Global) -> Arg<'a>
         "no-journal",
         "Reads and writes no journal: this change cannot be undone, nor any before it",
     )
+}
+
+/// `--bibtex`.
+pub fn bibtex<'a>(alloc: Global, help: &'a str) -> Arg<'a>
+    ensures rule { rule_of result ≡ bibtex }
+    ensures local { result.global ≡ false }
+{
+    switch(alloc, "bibtex", help)
 }
 
 /// `--hints`.

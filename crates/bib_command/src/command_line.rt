@@ -6,8 +6,8 @@ ghost use Rattle.bib_command.specs.Lines.{Reads};
 ghost use Rattle.bib_command.specs.CommandLine.{adds, over_file, over_files, cat_line, check_line, lint_line, show_line, cited_line, entry_line, cite_line, edit_or_print_line, json_line, keys_line, names_line, newkeys_line, edit_line, insert_line, steps_line, ris_line, import_texts_line, import_line, merge_line, diff_line, explain_line, bibkeep_top, bibkeep_shows, bibkeep_makes, bibkeep_edits, bibkeep};
 
 use crate::arguments::{
-    any_file, aux_files, count, edit_words, files_after, files_before, hints, ignore, keys, levels,
-    needed, needed_keys, new_journal, no_journal, position, print, switch,
+    any_file, aux_files, bibtex, count, edit_words, files_after, files_before, hints, ignore, keys,
+    levels, needed, needed_keys, new_journal, no_journal, position, print, switch,
 };
 use clap::Command;
 use std::alloc::{AllocError, Global};
@@ -159,14 +159,20 @@ fn show<'a>(alloc: Global) -> Result<Command<'a>, AllocError>
         "Prints an entry as a bibliography style sees it",
         "\
 Macros are expanded, each run of white space is one space, and missing fields are inherited from the parent; with
---depth 2 from the parent's parent too, and so on.
+--depth 2 from the parent's parent too, and so on. With --bibtex the entry inherits as in BibTeX 0.99d, which looks for the
+parent after the entry.
 
 Examples:
   bibkeep show refs.bib knuth86
-  bibkeep show refs.bib knuth86 --depth 2",
+  bibkeep show refs.bib knuth86 --depth 2
+  bibkeep show refs.bib knuth86 --bibtex",
     )?
     .arg(needed(alloc, "KEY", "The entry's key"))?
-    .arg(levels(alloc))
+    .arg(levels(alloc))?
+    .arg(bibtex(
+        alloc,
+        "Prints the entry as BibTeX 0.99d reads it; not with --depth, --before or --after",
+    ))
 }
 
 fn entry<'a>(alloc: Global) -> Result<Command<'a>, AllocError>
@@ -201,11 +207,14 @@ fn cite<'a>(alloc: Global) -> Result<Command<'a>, AllocError>
         "cite",
         "Lists the entries that a bibliography for these keys contains",
         "\
-A parent that at least N cited entries refer to is listed too. Unknown keys come last, each after `?`.
+A parent that at least N cited entries refer to is listed too. Unknown keys come last, each after `?`. With --bibtex the
+entries, their order and their crossrefs are those of BibTeX 0.99d: it finds a parent only after its child, or if you cite
+the parent.
 
 Examples:
   bibkeep cite refs.bib knuth86 lamport86
   bibkeep cite refs.bib --min-crossrefs 3 knuth86 lamport86
+  bibkeep cite refs.bib --bibtex knuth86 lamport86
   bibkeep cite refs.bib '*'   # every entry
   bibkeep cite refs.bib --strict --aux paper.aux   # status 1 if the paper cites an unknown key",
     )?
@@ -215,7 +224,11 @@ Examples:
         "2",
         "How many cited entries must refer to a parent so that it is listed too, from 1 to 65535",
     ))?
-    .arg(switch(alloc, "strict", "Ends with status 1 if a key is unknown"))
+    .arg(switch(alloc, "strict", "Ends with status 1 if a key is unknown"))?
+    .arg(bibtex(
+        alloc,
+        "Lists what BibTeX 0.99d would list; not with --before or --after",
+    ))
 }
 
 fn labels<'a>(alloc: Global) -> Result<Command<'a>, AllocError>
@@ -249,12 +262,17 @@ or the key of the entry from which it comes), and the entry has item (from 0), l
 Examples:
   bibkeep json refs.bib knuth86 lamport86
   bibkeep json refs.bib '*' | jq -r .key   # every entry
-  bibkeep json refs.bib --raw '*' | jq -r 'select(.fields.journal) | .fields.journal.value'",
+  bibkeep json refs.bib --raw '*' | jq -r 'select(.fields.journal) | .fields.journal.value'
+  bibkeep json refs.bib --bibtex '*'",
     )?
     .arg(switch(
         alloc,
         "raw",
         "Prints the fields as they are written, and where each entry stands",
+    ))?
+    .arg(bibtex(
+        alloc,
+        "Prints the entries as BibTeX 0.99d reads them; not with --depth, --raw, --before or --after",
     ))
 }
 
@@ -447,7 +465,8 @@ Examples:
   bibkeep ris refs.bib knuth86 lamport86
   bibkeep ris refs.bib '*' > refs.ris   # every entry
   bibkeep ris refs.bib --plain '*'      # accents as letters, and no braces
-  bibkeep ris refs.bib --dropped '*'    # what the RIS text leaves out",
+  bibkeep ris refs.bib --dropped '*'    # what the RIS text leaves out
+  bibkeep ris refs.bib --bibtex '*'     # with the fields that entries inherit in BibTeX",
     )?
     .arg(switch(
         alloc,
@@ -458,6 +477,10 @@ Examples:
         alloc,
         "plain",
         "Writes texts without braces, and LaTeX's accents as Unicode, except url and doi",
+    ))?
+    .arg(bibtex(
+        alloc,
+        "Prints the entries as BibTeX 0.99d reads them; not with --depth, --before or --after",
     ))
 }
 

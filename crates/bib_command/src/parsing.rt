@@ -1,17 +1,18 @@
 //! The command that the words of the command line name.
 
-ghost use Rattle.std.specs.Prelude.{◌≡◌, ◌⊎◌, ◌++◌, IfOk, IfErr, OnOk, map, string_bytes, [], true};
+ghost use Rattle.std.specs.Prelude.{◌≡◌, ◌⊎◌, ◌++◌, IfOk, IfErr, OnOk, Some, map, string_bytes, [], true};
 ghost use Rattle.clap.specs.Words.{fault_of, takes, rows_of, found_of};
-ghost use Rattle.bib_command.specs.CommandLine.{bibkeep, values, words_in, number, depth, given, command_of, IsCommandOf, asks_for_hints};
-ghost use Rattle.bib_command.specs.Usage.{no_memory, LackKeys, IsUsageFor};
+ghost use Rattle.bib_command.specs.CommandLine.{bibkeep, values, words_in, number, depth, given, is_from_words, is_said, has_rival, is_in_conflict, command_of, IsCommandOf, asks_for_hints};
+ghost use Rattle.bib_command.specs.Usage.{no_memory, MatchNoCommand, IsUsageFor};
 ghost use Rattle.bib_words.specs.Command.{IsCommand};
 
 use crate::Usage;
 use crate::command_line::command_line;
-use crate::usages::{no_memory, usage_of, without_keys};
+use crate::usages::{in_conflict, no_memory, usage_of, without_keys};
 use bib_text::{Seq, Text, copied};
 use bib_words::Command;
 use clap::ArgMatches;
+use clap::parser::ValueSource;
 use std::alloc::{AllocError, Global};
 
 /// A command, and whether its words ask for hints.
@@ -30,8 +31,8 @@ pub fn parse(alloc: Global, words: &[String]) -> Result<Command, Usage>
     ensures accepted { OnOk result (fault_of bibkeep (map string_bytes words.now) ≡ []) }
     ensures err { IfErr result (IsUsageFor (map string_bytes words.now)) }
 
-    // Words that match are refused only if they lack keys, or if memory runs out.
-    ensures taken { takes bibkeep (map string_bytes words.now) ≡ true → IfErr result (λ usage. LackKeys (map string_bytes words.now) ⊎ (usage ≡ no_memory)) }
+    // Words that match are refused only if they lack keys, if their options do not go together, or if memory runs out.
+    ensures taken { takes bibkeep (map string_bytes words.now) ≡ true → IfErr result (λ usage. MatchNoCommand (map string_bytes words.now) ⊎ (usage ≡ no_memory)) }
 {
     match parse_request(alloc, words) {
         Ok(request) => Ok(request.command),
@@ -50,28 +51,33 @@ pub fn parse_request(alloc: Global, words: &[String]) -> Result<Request, Usage>
     ensures accepted { OnOk result (fault_of bibkeep (map string_bytes words.now) ≡ []) }
     ensures err { IfErr result (IsUsageFor (map string_bytes words.now)) }
 
-    // Words that match are refused only if they lack keys, or if memory runs out.
-    ensures taken { takes bibkeep (map string_bytes words.now) ≡ true → IfErr result (λ usage. LackKeys (map string_bytes words.now) ⊎ (usage ≡ no_memory)) }
+    // Words that match are refused only if they lack keys, if their options do not go together, or if memory runs out.
+    ensures taken { takes bibkeep (map string_bytes words.now) ≡ true → IfErr result (λ usage. MatchNoCommand (map string_bytes words.now) ⊎ (usage ≡ no_memory)) }
 {
     let Ok(command) = command_line(alloc) else {
         return Err(no_memory(alloc));
     };
     match command.try_get_matches_from(words) {
         Ok(matches) => match matches.subcommand() {
-            Some((name, inner)) => match command_of(alloc, name, inner) {
-                Ok(command) => {
-                    // the words match, so the command lacks nothing but keys
-                    if command.is_known() {
-                        Ok(Request {
-                            command,
-                            hints: is_given(inner, "hints"),
-                        })
-                    } else {
-                        Err(without_keys(alloc, command.name.as_slice()))
-                    }
+            Some((name, inner)) => {
+                if is_in_conflict(inner) {
+                    return Err(in_conflict(alloc, rival_of(inner)));
                 }
-                Err(_) => Err(no_memory(alloc)),
-            },
+                match command_of(alloc, name, inner) {
+                    Ok(command) => {
+                        // the words match and the options go together, so the command lacks nothing but keys
+                        if command.is_known() {
+                            Ok(Request {
+                                command,
+                                hints: is_given(inner, "hints"),
+                            })
+                        } else {
+                            Err(without_keys(alloc, command.name.as_slice()))
+                        }
+                    }
+                    Err(_) => Err(no_memory(alloc)),
+                }
+            }
             None => unreachable!(),
         },
         Err(error) => Err(usage_of(alloc, &error)),
@@ -102,6 +108,7 @@ fn command_of(alloc: Global, name: &str, matches: &ArgMatches<'_>) -> Result<Com
         raw: is_given(matches, "raw"),
         skipped: is_given(matches, "skipped"),
         plain: is_given(matches, "plain"),
+        bibtex: is_given(matches, "bibtex"),
     })
 }
 
@@ -153,6 +160,52 @@ fn is_given(matches: &ArgMatches<'_>, name: &str) -> bool
     ensures { result ≡ given name.now (rows_of (found_of matches.now)) }
 {
     matches.get_one::<bool>(name).unwrap_or(false)
+}
+
+/// Whether the words give `--bibtex` and an option that does not go with it.
+fn is_in_conflict(matches: &ArgMatches<'_>) -> bool
+    ensures { result ≡ is_in_conflict (rows_of (found_of matches.now)) }
+{
+    is_given(matches, "bibtex") && has_rival(matches)
+}
+
+/// Whether the words give an option that does not go with `--bibtex`.
+fn has_rival(matches: &ArgMatches<'_>) -> bool
+    ensures { result ≡ has_rival (rows_of (found_of matches.now)) }
+{
+    is_said(matches, "D")
+        || (is_said(matches, "raw") || (is_said(matches, "BEFORE") || is_said(matches, "AFTER")))
+}
+
+/// The option that does not go with `--bibtex`, as help writes it, if the words give one.
+fn rival_of(matches: &ArgMatches<'_>) -> &'static [u8] {
+    if is_said(matches, "D") {
+        return b"--depth <D>";
+    }
+    if is_said(matches, "raw") {
+        return b"--raw";
+    }
+    if is_said(matches, "BEFORE") {
+        return b"--before <FILE>";
+    }
+    b"--after <FILE>"
+}
+
+/// Whether the words themselves give an argument, so that its value is not a default.
+fn is_said(matches: &ArgMatches<'_>, id: &str) -> bool
+    ensures { result ≡ is_said id.now (rows_of (found_of matches.now)) }
+{
+    match matches.value_source(id) {
+        Some(source) => is_from_words(source),
+        None => false,
+    }
+}
+
+/// Whether a value is from the words themselves.
+fn is_from_words(source: ValueSource) -> bool
+    ensures { result ≡ is_from_words (Some source) }
+{
+    matches!(source, ValueSource::CommandLine)
 }
 
 /// Adds the values of an argument, in order.

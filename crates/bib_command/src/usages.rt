@@ -61,6 +61,27 @@ fn keyless_text(alloc: Global, command: &[u8]) -> Result<Text, AllocError> {
     Ok(Text::from_vec(text))
 }
 
+/// The text and the status for words that give `--bibtex` and this option, which does not go with it.
+pub fn in_conflict(alloc: Global, rival: &[u8]) -> Usage
+    ensures { (result.status ≡ 2) ⊎ (result ≡ no_memory) }
+{
+    match conflict_text(alloc, rival) {
+        Ok(text) => Usage {
+            text,
+            status: status::COMMAND_LINE,
+        },
+        Err(_) => no_memory(alloc),
+    }
+}
+
+fn conflict_text(alloc: Global, rival: &[u8]) -> Result<Text, AllocError> {
+    let mut text = Vec::new(alloc);
+    text.extend_from_slice(b"error: the argument '--bibtex' cannot be used with '")?;
+    text.extend_from_slice(rival)?;
+    text.extend_from_slice(b"'\n\nFor more information, try '--help'.\n")?;
+    Ok(Text::from_vec(text))
+}
+
 /// The answer without a text, when there is no memory to make one.
 pub fn no_memory(alloc: Global) -> Usage
     ensures { result ≡ no_memory }

@@ -1,17 +1,22 @@
 -- Why defining a macro is refused, and that it is not; and the one piece that it is.
-use Rattle.bib_edit.proofs.Words.{◌≡◌, ℕ, zero, suc, ◌+◌, ◌<◌, ◌≤◌, true, List, [], ◌∷◌, ◌++◌, IfSome, codes, length, take, drop, refl, sym, ◌∙◌, ap, ap₂, subst, arith, append_assoc, append-nil, zero-add, le_of_suc-le-suc, not-suc-le-zero, true≢false, All-nil, All-cons, All-head, name_limit, equals_sign, Text, is_name, Value, Tree, DefinitionTree}
-use Rattle.bib_edit.proofs.Words.{tree_bytes, value_bytes, IsValue, IsValueWithin, Item, Reading, Reads, bytes_of, item_bytes, Opens, IsOpenable, Edit, BadKey, BadName, BadValue, BadPosition, NotFound, Ambiguous, KeyInUse, NameInUse, Referred, WouldMerge, FileTooLong, TextTooLong, Fit, file_limit, olds_len, definitions, edited, in_line, IsAccepted, IsFirstRefusal, pieces_of, Spells}
-use Rattle.bib_edit.proofs.Words.{Piece, Chunk, Kept, Replaced, pieces_from, pieces_of_chunks, kept_item, kept_items, start_of, body_at, trail_at, OfReading, made_base, IsAllowedEdit, ArePiecesOf, IsRefusal, one_reading}
+use Rattle.bib_edit.proofs.Words.{◌≡◌, ℕ, zero, suc, ◌+◌, ◌<◌, ◌≤◌, true, List, [], ◌∷◌, ◌++◌, codes, length, take, drop, refl, sym, ◌∙◌, ap, subst, arith, append_assoc, append-nil, zero-add, le_of_suc-le-suc, not-suc-le-zero, true≢false, All-nil, All-cons, All-head, name_limit, equals_sign, Text, is_name, Value, Tree, DefinitionTree}
+use Rattle.bib_edit.proofs.Words.{tree_bytes, value_bytes, IsValue, IsValueWithin, Item, Reading, Reads, bytes_of, item_bytes, IsOpenable, BadKey, BadName, BadValue, BadPosition, NotFound, Ambiguous, KeyInUse, NameInUse, Referred, WouldMerge, FileTooLong, TextTooLong, Fit, file_limit, olds_len, definitions, in_line, IsAccepted, IsFirstRefusal, pieces_of, Spells}
+use Rattle.bib_edit.proofs.Words.{Piece, Kept, Replaced, pieces_from, pieces_of_chunks, kept_item, kept_items, start_of, body_at, trail_at, OfReading, made_base, months, IsAllowedEdit, ArePiecesOf, IsRefusal}
 use Rattle.edit_spec.specs.Edits.{DefineMacro, line_end, definition_as, definitions_end, define_macro}
 use Rattle.edit_spec.specs.EditChunks.{chunks_after}
 use Rattle.edit_spec.proofs.DefineMacro.{define_macro-reads, end-within}
 use Rattle.bib_data.specs.declared.edit.Edit.TheVariants as asked
-use Rattle.bib_edit.specs.MacroValues.{definition_line, defining_piece, MakeOpenFile, IsLengthFault, long_file, long_text, no_memory}
+use Rattle.bib_spec.specs.Pieces.{applied}
+use Rattle.bib_value.specs.Raw.{OfValue}
+use Rattle.bib_edit.specs.MacroValues.{definition_line, defining_piece, MakeShortFile, MakeOpenFile, IsLengthFault, long_file, long_text, no_memory, StaysShort}
 use Rattle.bib_edit.specs.declared.fault.EditFault.{EditFault as Fault}
 use Rattle.bib_edit.specs.declared.fault.EditFault.TheVariants as fault
 use Rattle.bib_edit.proofs.PieceLists.{pieces-after_items, pieces-kept_items}
 use Rattle.bib_edit.proofs.PiecePlaces.{insertion-pieces}
-use Rattle.bib_edit.proofs.TriedPieces.{tried-fit, tried-goes, tried-refused, tried-accepted}
+use Rattle.bib_edit.proofs.TriedPieces.{tried-fit, tried-goes, tried-opens, tried-refused, tried-accepted}
+use Rattle.bib_edit.proofs.UnusedValues.{put-short}
+use Rattle.bib_edit.proofs.LongTexts.{too_long-any}
+use Rattle.bib_edit.proofs.OpenFiles.{none-long}
 use Rattle.bib_edit.proofs.AskedEdits.{some_value, of-define_macro}
 use Rattle.bib_edit.proofs.GivenNames.{and_name}
 use Rattle.bib_edit.proofs.Ranks.{Passes, no_reason, more, is_first}
@@ -52,15 +57,6 @@ module _ (name : Text) (v : Value) (db : Reading) where
 
   pub define-pieces : pieces_of made_base db (DefineMacro name v) ≡ defining_piece db (definitions_end db.items) name (value_bytes v) ∷ []
   define-pieces = placed (definitions_end db.items) (end-within db.items)
-
--- the place is given as the end, where there is one
-pub first-piece : (db : Reading) (name value : Text) (n : ℕ) (p : Piece) → n ≡ 0 → p ≡ defining_piece db 0 name value → p ≡ defining_piece db n name value
-first-piece db name value n p none is = is ∙ ap (λ k. defining_piece db k name value) (sym none)
-
-pub behind-piece : (db : Reading) (name value : Text) (n k : ℕ) → n ≡ suc k → (at : ℕ) (line : Text) → at ≡ start_of db k + length (body_at db.items k) → line ≡ definition_line (codes "\n") name value [] →
-    record { place = at; old = []; new = line } ≡ defining_piece db n name value
-behind-piece db name value n k is at line at_is line_is =
-    ap₂ (λ (a : ℕ) (t : Text). (let it : Piece = record { place = a; old = []; new = t } in it)) at_is line_is ∙ ap (λ m. defining_piece db m name value) (sym is)
 
 -- ---- the reasons in their order
 
@@ -114,6 +110,17 @@ module _ (file name value : Text) where
         pub goes-define_macro : IsOpenable file → olds_len ps ≤ file_limit
         goes-define_macro is =
             tried-goes (DefineMacro name spelled.0) file is.0 is.1.reads (reading is.0 is.1.reads spelled.0 spelled.1) ps (are is.0 is.1.reads spelled.0 spelled.1) is.1.short
+
+        pub opens-define_macro : IsOpenable file → (n : ℕ) → OfReading file (λ db. n ≡ definitions_end db.items) → OfReading file (λ db. OfValue value (λ v. StaysShort name v n n db)) →
+            MakeShortFile ps file → IsOpenable (applied ps file)
+        opens-define_macro is n end stays short =
+            let db : Reading = is.0 in
+            let reads = is.1.reads in
+            let v : Value = spelled.0 in
+            let s = spelled.1 in
+            let stay = subst (λ (k : ℕ). StaysShort name v k k db) (end db reads) (stays db reads v (s.value valued) s.bytes) in
+            tried-opens (DefineMacro name v) file db reads (reading db reads v s) ps (are db reads v s)
+            (too_long-any (define_macro name v db) ∙ put-short name v months (definitions_end db.items) db.items stay.unused stay.text (none-long file db is.1)) short
 
         pub refused-lengths : (reason : Fault) → IsLengthFault ps file reason → IsRefusal file (asked.DefineMacro name value) reason
         refused-lengths reason (long_file over) = λ db reads. of-define_macro name value (λ e. IsFirstRefusal made_base db e FileTooLong)

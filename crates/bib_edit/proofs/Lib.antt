@@ -66,6 +66,7 @@ pub mod KeptTrails
 pub mod InlinedMacro
 pub mod UndefinedMacro
 pub mod TriedPieces
+pub mod UnusedValues
 pub mod DefinitionsEnd
 pub mod DefinedMacro
 pub mod MacroSettings

@@ -1,18 +1,24 @@
 -- Why giving a macro a value is refused, and that it is not; and the one piece that it is.
-use Rattle.bib_edit.proofs.Words.{◌≡◌, ℕ, ◌+◌, ◌<◌, ◌≤◌, true, List, [], ◌∷◌, Some, slice_get, length, sym, ◌∙◌, ap, arith, true≢false, All-nil, All-cons, All-head, name_limit, Text, is_name, Value, Definition, DefinitionTree, tree_bytes, value_bytes, IsValue, IsValueWithin, Item, Reading, Reads, bytes_of, IsOpenable}
-use Rattle.bib_edit.proofs.Words.{BadKey, BadName, BadValue, BadPosition, NotFound, Ambiguous, KeyInUse, NameInUse, Referred, WouldMerge, FileTooLong, TextTooLong, Fit, file_limit, olds_len, definitions, defines, IsAccepted, IsFirstRefusal, pieces_of, Spells, Piece, Chunk, Kept, pieces_from, pieces_of_chunks, chunks_from_first, start_of}
-use Rattle.bib_edit.proofs.Words.{OfReading, made_base, same_Some, IsDefinedAt, IsDefinitionAt, IsDefinitionNumber, IsDefinitionFault, none_defines, many_define, IsAllowedEdit, ArePiecesOf, IsRefusal}
+use Rattle.bib_edit.proofs.Words.{◌≡◌, ℕ, suc, ◌+◌, ◌≤◌, true, List, [], ◌∷◌, length, sym, ◌∙◌, ap, arith, true≢false, All-nil, All-cons, All-head, name_limit, Text, is_name, Value, Definition, DefinitionTree, value_bytes, IsValue, IsValueWithin, Item, Reading, Reads, bytes_of, IsOpenable}
+use Rattle.bib_edit.proofs.Words.{BadKey, BadName, BadValue, BadPosition, NotFound, Ambiguous, KeyInUse, NameInUse, Referred, WouldMerge, FileTooLong, TextTooLong, Fit, file_limit, olds_len, definitions, defines, IsAccepted, IsFirstRefusal, pieces_of, Spells, Piece, Chunk, pieces_from, chunks_from_first, start_of}
+use Rattle.bib_edit.proofs.Words.{OfReading, made_base, months, subst, same_Some, IsDefinedAt, IsDefinitionAt, IsDefinitionNumber, IsDefinitionFault, none_defines, many_define, IsAllowedEdit, ArePiecesOf, IsRefusal}
 use Rattle.edit_spec.specs.Edits.{SetMacro, set_macro}
 use Rattle.edit_spec.specs.EditChunks.{body_and_rest, definition_chunks}
 use Rattle.edit_spec.proofs.SetMacro.{set_macro-reads}
 use Rattle.bib_data.specs.declared.edit.Edit.TheVariants as asked
-use Rattle.bib_edit.specs.MacroValues.{value_piece, MakeOpenFile, IsLengthFault, long_file, long_text, no_memory}
+use Rattle.bib_spec.specs.Pieces.{applied}
+use Rattle.bib_value.specs.Raw.{OfValue}
+use Rattle.bib_edit.specs.MacroValues.{value_piece, MakeShortFile, StaysShort, MakeOpenFile, IsLengthFault, long_file, long_text, no_memory}
 use Rattle.bib_edit.specs.declared.fault.EditFault.{EditFault as Fault}
 use Rattle.bib_edit.specs.declared.fault.EditFault.TheVariants as fault
 use Rattle.bib_edit.proofs.FirstItems.{IsFirstItem, found_first, chunks-first, item-first, start-first}
 use Rattle.bib_edit.proofs.PieceLists.{pieces-after_items, pieces-before_items}
 use Rattle.bib_edit.proofs.DefinedNames.{definition_item, first-definition}
-use Rattle.bib_edit.proofs.TriedPieces.{tried-fit, tried-goes, tried-refused, tried-accepted}
+use Rattle.bib_edit.proofs.TriedPieces.{tried-fit, tried-goes, tried-opens, tried-refused, tried-accepted}
+use Rattle.bib_edit.proofs.UnusedValues.{set-short}
+use Rattle.bib_edit.proofs.FoundItems.{defined-at, defined-within}
+use Rattle.bib_edit.proofs.LongTexts.{too_long-any}
+use Rattle.bib_edit.proofs.OpenFiles.{none-long}
 use Rattle.bib_edit.proofs.AskedEdits.{some_value, of-set_macro}
 use Rattle.bib_edit.proofs.GivenNames.{and_name}
 use Rattle.bib_edit.proofs.Ranks.{Passes, no_reason, more, is_first}
@@ -77,6 +83,10 @@ module _ (file name value : Text) (named : is_name name ≡ true) where
         (λ v s. let some = many db reads in is_first Ambiguous some (passes_there db name v named (s.value valued) (λ none. omega (arith, none, some))))
 
     module _ (n : ℕ) (lone : OfReading file (λ db. IsDefinedAt name db n)) where
+      -- there is a place after it
+      pub definition-within : OfReading file (λ db. suc n ≤ length db.items)
+      definition-within db reads = defined-within name db n (lone db reads)
+
       pub definition-number : IsDefinitionNumber file n
       definition-number db reads = let d = first-definition name db n (lone db reads).item in (d.0, d.1)
 
@@ -99,6 +109,17 @@ module _ (file name value : Text) (named : is_name name ≡ true) where
 
         pub goes-set_macro : IsOpenable file → olds_len ps ≤ file_limit
         goes-set_macro is = tried-goes (SetMacro name spelled.0) file is.0 is.1.reads (reading is.0 is.1.reads spelled.0 spelled.1) ps (are is.0 is.1.reads spelled.0 spelled.1) is.1.short
+
+        pub opens-set_macro : IsOpenable file → (after : ℕ) → after ≡ suc n → OfReading file (λ db. OfValue value (λ v. StaysShort name v n after db)) →
+            MakeShortFile ps file → IsOpenable (applied ps file)
+        opens-set_macro is after next stays short =
+            let db : Reading = is.0 in
+            let reads = is.1.reads in
+            let v : Value = spelled.0 in
+            let s = spelled.1 in
+            let stay = subst (λ (k : ℕ). StaysShort name v n k db) next (stays db reads v (s.value valued) s.bytes) in
+            tried-opens (SetMacro name v) file db reads (reading db reads v s) ps (are db reads v s)
+            (too_long-any (set_macro name v db) ∙ set-short name v months db.items n (defined-at name db n (lone db reads)) stay.unused stay.text (none-long file db is.1)) short
 
         pub refused-lengths : (reason : Fault) → IsLengthFault ps file reason → IsRefusal file (asked.SetMacro name value) reason
         refused-lengths reason (long_file over) = λ db reads. of-set_macro name value (λ e. IsFirstRefusal made_base db e FileTooLong)

@@ -1,5 +1,5 @@
 -- An edit whose pieces are tried on a copy of the file: its limits are judged by what becomes of the copy.
-use Rattle.bib_edit.proofs.Words.{◌≡◌, ℕ, ◌+◌, ◌≤◌, ◌<◌, true, false, is_some, List, Option, Some, None, IfSome, length, refl, sym, ◌∙◌, ap, ap₂, subst, subst₂, arith, both_ways, true≢false, true_from_ne_false, file_limit, name_limit, Text, Reading, Reads, bytes_of, too_long_at, Opens, IsOpenable}
+use Rattle.bib_edit.proofs.Words.{◌≡◌, ℕ, ◌≤◌, false, is_some, List, Option, Some, None, IfSome, length, refl, sym, ◌∙◌, ap, ap₂, subst, subst₂, arith, both_ways, true≢false, true_from_ne_false, file_limit, name_limit, Text, Reading, Reads, bytes_of, too_long_at, IsOpenable}
 use Rattle.bib_edit.proofs.Words.{Edit, Refuses, FileTooLong, TextTooLong, Piece, Fit, edited, pieces_of, pieces-lead, IsAccepted, IsFirstRefusal, made_base, olds_len, news_len, one_reading}
 use Rattle.bib_spec.specs.Pieces.{applied}
 use Rattle.bib_edit.specs.Faults.{reason_of}
@@ -44,8 +44,12 @@ module _ (e : Edit) (file : Text) (db : Reading) (reads : Reads file db) (made :
       let same : opens.0 ≡ new = one_reading name_limit (applied ps file) opens.0 new opens.1.reads made_reads in
       both_ways (is_some (too_long_at new)) (ap (λ (r : Reading). is_some (too_long_at r)) (sym same) ∙ ap is_some opens.1.texts) long
 
+  -- the new file can be opened, if its texts are short
+  pub tried-opens : is_some (too_long_at new) ≡ false → MakeShortFile ps file → IsOpenable (applied ps file)
+  tried-opens none short = (new, record { reads = made_reads; short = made_short short; texts = none-is (too_long_at new) none })
+
   unopened-long : MakeShortFile ps file → (IsOpenable (applied ps file) → ⊥) → Refuses made_base TextTooLong db e
-  unopened-long short not = true_from_ne_false (is_some (too_long_at new)) (λ none. not (new, record { reads = made_reads; short = made_short short; texts = none-is (too_long_at new) none }))
+  unopened-long short not = true_from_ne_false (is_some (too_long_at new)) (λ none. not (tried-opens none short))
 
   -- no other reason refuses it
   module _ (passes : Passes made_base db e 10) where

@@ -1,11 +1,12 @@
 -- The pieces that define a macro and that give it another value, and what is answered if what they make is too long.
-use Rattle.std.specs.Prelude.{ℕ, zero, suc, ◌≡◌, ◌+◌, ◌<◌, ◌≤◌, List, [], ◌∷◌, ◌++◌, length, codes}
+use Rattle.std.specs.Prelude.{ℕ, zero, suc, ◌≡◌, ◌+◌, ◌<◌, ◌≤◌, nat_lt, false, List, [], ◌++◌, None, length, drop, codes}
 use Rattle.bib_spec.specs.Bytes.{file_limit}
 use Rattle.bib_spec.specs.Text.{Text}
-use Rattle.bib_spec.specs.Tree.{Definition}
+use Rattle.bib_spec.specs.Tree.{Definition, Value}
 use Rattle.bib_spec.specs.Reading.{Reading}
-use Rattle.bib_spec.specs.Texts.{IsOpenable}
+use Rattle.bib_spec.specs.Texts.{IsOpenable, months, updated, macros_at, raw_text, raw_limit}
 use Rattle.bib_spec.specs.Pieces.{Piece, applied}
+use Rattle.part_spec.specs.Parts.{uses, have_part}
 use Rattle.bib_scan.specs.Layout.{start_of}
 use Rattle.bib_edit.specs.Definitions.{value_token}
 use Rattle.bib_edit.specs.Limits.{olds_len, news_len}
@@ -44,3 +45,14 @@ pub data IsLengthFault (pieces : List Piece) (file : Text) : EditFault → Type 
   long_file : file_limit + olds_len pieces < length file + news_len pieces → IsLengthFault pieces file FileTooLong
   long_text : MakeShortFile pieces file → (IsOpenable (applied pieces file) → ⊥) → IsLengthFault pieces file TextTooLong
   no_memory : IsLengthFault pieces file Memory
+
+-- ---- texts that stay short
+
+-- what the value says in item n, where it is that of the macro's definition, is not too long
+abbrev pub IsShortAt : Text → Value → ℕ → Reading → Type 0
+IsShortAt name v n db = nat_lt raw_limit (length (raw_text (updated (macros_at months db.items n) name None) v)) ≡ false
+
+-- so is it, and no item from this number on uses the macro
+pub record StaysShort (name : Text) (v : Value) (n after : ℕ) (db : Reading) : Type 0 where
+  pub text : IsShortAt name v n db
+  pub unused : have_part (uses name) (drop after db.items) ≡ false

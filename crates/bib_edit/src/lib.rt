@@ -41,6 +41,7 @@ mod taking_out;
 mod trying;
 mod undefine_macro;
 mod unused_keys;
+mod unused_values;
 mod values;
 
 pub use bib_data::{Edit, NewEntry, Position};

@@ -14,13 +14,15 @@ use crate::defining::{lone_definition, value_of};
 use crate::fault::EditFault;
 use crate::pieces::one_piece;
 use crate::trying::unless_too_long;
+use crate::unused_values::stays_short;
 use crate::values::is_value;
 use bib_scan::{Seq, copied, is_name, one_reading};
 use bib_store::{Database, ItemList, Piece};
 use std::alloc::Global;
 
-/// The piece that gives the macro's one definition this value, or the first reason against it. It takes time and memory as opening
-/// the file does.
+/// The piece that gives the macro's one definition this value, or the first reason against it. It looks at items as `push_from`
+/// does, from the definition on. If one uses the macro, or the value's text is too long, it takes time and memory as opening the
+/// file does.
 pub(crate) fn set_macro<L: ItemList>(
     alloc: Global,
     db: &Database<L>,
@@ -33,6 +35,8 @@ pub(crate) fn set_macro<L: ItemList>(
 {
     db.opens();
     one_reading();
+    // for the proof: an item's number is below their count, so it can grow by one
+    let _ = db.item_count();
     if !is_name(name) {
         return Err(EditFault::BadName);
     }
@@ -42,7 +46,8 @@ pub(crate) fn set_macro<L: ItemList>(
     let n = lone_definition(db, name)?;
     let piece = value_piece(alloc, db, n, value)?;
     let pieces = one_piece(alloc, piece)?;
-    unless_too_long(alloc, db, pieces)
+    let short = stays_short(alloc, db, n, n + 1, name, value)?;
+    unless_too_long(alloc, db, pieces, short)
 }
 
 /// The piece that gives item `n`, which is a definition, this value.

@@ -5,7 +5,7 @@ ghost use Rattle.bib_spec.specs.Bytes.{file_limit};
 ghost use Rattle.bib_spec.specs.Texts.{IsOpenable};
 ghost use Rattle.bib_spec.specs.Pieces.{Fit, applied};
 ghost use Rattle.bib_edit.specs.Limits.{olds_len};
-ghost use Rattle.bib_edit.specs.MacroValues.{MakeOpenFile, IsLengthFault};
+ghost use Rattle.bib_edit.specs.MacroValues.{MakeShortFile, MakeOpenFile, IsLengthFault};
 ghost use Rattle.bib_edit.specs.declared.fault.EditFault.TheVariants.{Memory};
 
 use crate::fault::EditFault;
@@ -66,20 +66,26 @@ fn make_open_file<L: ItemList>(
 }
 
 /// These pieces, which fit the file, unless the file that they make would be too long, or a raw text in it. A text may be too long
-/// in any item after the pieces, so they are tried on a copy of the file. It takes time and memory as opening the file does.
+/// in any item after the pieces, so they are tried on a copy of the file if it is not known that all texts are short: then it takes
+/// time and memory as opening the file does.
 pub(crate) fn unless_too_long<L: ItemList>(
     alloc: Global,
     db: &Database<L>,
     pieces: Seq<Piece>,
+    are_texts_short: bool,
 ) -> Result<Seq<Piece>, EditFault>
     requires fit { Fit pieces db.now }
     requires goes { olds_len pieces ≤ file_limit }
+    requires short { IsTrue are_texts_short → MakeShortFile pieces db.now → IsOpenable (applied pieces db.now) }
     ensures same { IfOk result (λ same. same ≡ pieces) }
     ensures opens { OnOk result (MakeOpenFile pieces db.now) }
     ensures refused { IfErr result (IsLengthFault pieces db.now) }
 {
     if are_too_long(db, pieces.as_slice()) {
         return Err(EditFault::FileTooLong);
+    }
+    if are_texts_short {
+        return Ok(pieces);
     }
     if !make_open_file(alloc, db, pieces.as_slice())? {
         return Err(EditFault::TextTooLong);

@@ -15,6 +15,10 @@ use std::io::ErrorKind;
 pub fn hint_fault(lines: &mut Lines, asked: &Asked<'_>, said: Said) -> Result<(), AllocError> {
     match (said.fault, said.place) {
         (1..=8, Some(place)) => hint_place(lines, asked.name(), asked.file, place),
+        (14, Some(place)) => {
+            hint_place(lines, asked.name(), asked.file, place)?;
+            hint_plain(lines, asked)
+        }
         (9, _) => lines.say(
             b"a file, a script or a RIS text has at most 16777216 bytes",
             &[],
@@ -70,11 +74,31 @@ pub fn hint_place(
     lines.say(b"the line: %", &parts)
 }
 
+/// How a file becomes one that BibTeX reads as bibkeep does.
+fn hint_plain(lines: &mut Lines, asked: &Asked<'_>) -> Result<(), AllocError> {
+    let parts = [Part::Typed(asked.name(), b"F")];
+    lines.say(
+        b"in the last line of the file: echo >> % ends the file with an empty line",
+        &parts,
+    )?;
+    lines.say(
+        b"in an entry whose key an earlier entry has: take this entry out",
+        &[],
+    )
+}
+
 fn hint_question(lines: &mut Lines, asked: &Asked<'_>, fault: usize) -> Result<(), AllocError> {
     match fault {
         13 => {
             let parts = [Part::Name(asked.word(0))];
             lines.say(b"% is neither the number nor the name of a fault", &parts)
+        }
+        15 => {
+            let parts = [Part::Typed(asked.name(), b"F")];
+            lines.say(
+                b"bibkeep lint % finds the parents that have a parent",
+                &parts,
+            )
         }
         21 => {
             let parts = [Part::Name(asked.word(1))];

@@ -18,8 +18,9 @@ pub fn hint_unknown_keys(lines: &mut Lines, asked: &Asked<'_>) -> Result<(), All
     let mut n = 0usize;
     'words: for word in asked.command.words.as_slice() {
         let is_key = n == 1 || n > 1 && !asked.command.is_named(b"names");
+        let is_star = is_star_among(asked, word.as_slice());
         n = n.saturating_add(1);
-        if is_key && starts.get(word.as_slice()).is_none() {
+        if is_key && !is_star && starts.get(word.as_slice()).is_none() {
             unknown = unknown.saturating_add(1);
             if unknown <= NAMED {
                 let parts = [Part::Name(name), Part::Name(word.as_slice())];
@@ -33,4 +34,9 @@ pub fn hint_unknown_keys(lines: &mut Lines, asked: &Asked<'_>) -> Result<(), All
     }
     let parts = [Part::Typed(name, b"F")];
     lines.say(b"bibkeep cite % '*' lists the keys", &parts)
+}
+
+/// Whether the word is `*` of a list of keys, which cites every entry as BibTeX reads it, whatever else the list has.
+fn is_star_among(asked: &Asked<'_>, word: &[u8]) -> bool {
+    asked.command.bibtex && !asked.command.is_named(b"show") && word == b"*".as_slice()
 }

@@ -23,6 +23,12 @@ pub fn hint_usage(lines: &mut Lines, words: &[String]) -> Result<(), AllocError>
     if has(words, b"--dry-run") {
         return lines.say(b"--print shows the new file, and stores nothing", &[]);
     }
+    if has(words, b"--bibtex") && has_rival(words) {
+        return lines.say(
+            b"BibTeX reads one file, and decides itself how far an entry inherits",
+            &[],
+        );
+    }
     if command == b"undo".as_slice() || command == b"redo".as_slice() {
         let parts = [Part::Name(command)];
         return lines.say(
@@ -62,6 +68,14 @@ fn takes_keys(command: &[u8]) -> bool {
         || command == b"json".as_slice()
         || command == b"ris".as_slice()
         || command == b"extract".as_slice()
+}
+
+/// Whether one of the words is an option that does not go with `--bibtex`.
+fn has_rival(words: &[String]) -> bool {
+    has(words, b"--depth")
+        || has(words, b"--raw")
+        || has(words, b"--before")
+        || has(words, b"--after")
 }
 
 /// How many words follow the command, without options.

@@ -1,5 +1,5 @@
 -- Why a file is not opened is determined.
-use Rattle.bib_journal.proofs.Words.{◌≡◌, ◌≢◌, ◌≤◌, ℕ, length, Option, None, Some, inl, inr, refl, sym, ◌∙◌, ap, subst, arith, rules, Text, file_limit, name_limit, IsOpenable, Reading, Reads, one_reading}
+use Rattle.bib_journal.proofs.Words.{◌≡◌, ◌≢◌, ◌≤◌, ℕ, length, None, Some, inl, inr, refl, sym, ◌∙◌, ap, subst, arith, rules, Text, file_limit, name_limit, IsOpenable, Reading, Reads, one_reading}
 use Rattle.std.proofs.lemmas.Option.{same_Some}
 use Rattle.bib_spec.specs.Reading.{HasReading, HasReadingWithin}
 use Rattle.bib_spec.specs.Fault.{IsReadFault, IsFaultAt, fault_number, too_long, no_reading, no_memory}

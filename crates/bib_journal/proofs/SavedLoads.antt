@@ -1,9 +1,6 @@
 -- What a session saved is loaded, and is refused for want of memory alone.
-use Rattle.bib_journal.proofs.Words.{◌≡◌, ℕ, Option, None, Some, inl, inr, refl, sym, ◌∙◌, ap, subst, arith, rules, Text, name_limit, too_long, IsOpenable, one_reading, KeptSteps, one-contents, SessionFault, Unopened, Refused, JournalFull, NothingToUndo, NothingToRedo, BadJournal, JournalMismatch}
+use Rattle.bib_journal.proofs.Words.{◌≡◌, Option, None, Some, refl, subst, Text, IsOpenable, KeptSteps, one-contents, SessionFault, Unopened, Refused, JournalFull, NothingToUndo, NothingToRedo, BadJournal, JournalMismatch}
 use Rattle.bib_journal.proofs.Words.{StepOpen, NoOpenStep, Memory, FitFile, Loads, contents_of, Opens, RefusesOpen}
-use Rattle.bib_spec.specs.Fault.{IsReadFault, no_reading, no_memory}
-use Rattle.bib_spec.specs.Texts.{too_long_at}
-use Rattle.bib_store.specs.Readings.{IsOpenFault}
 use Rattle.bib_journal.specs.Session.{RefusesStart, RefusesLoad}
 use Rattle.bib_journal.specs.SavedLoads.{what_is_saved_is_loaded}
 use Rattle.bib_journal.proofs.OpenFaults.{open_fault}

@@ -63,7 +63,9 @@ fn seeks_parts(edit: &Edit) -> bool {
         Edit::RenameMacro { .. }
         | Edit::InlineMacro { .. }
         | Edit::IntroduceMacro { .. }
-        | Edit::UndefineMacro { .. } => true,
+        | Edit::UndefineMacro { .. }
+        | Edit::DefineMacro { .. }
+        | Edit::SetMacro { .. } => true,
         _ => false,
     }
 }

@@ -1,5 +1,5 @@
 -- The merge of three files in which names are followed.
-use Rattle.std.proofs.Common.{◌≡◌, List, [], map, refl, sym, ◌∙◌, ap, subst}
+use Rattle.std.proofs.Common.{◌≡◌, List, [], map, refl, sym, subst}
 use Rattle.bib_spec.specs.Text.{Text}
 use Rattle.merge_spec.specs.Units.{Label}
 use Rattle.merge_spec.specs.Conflicts.{Conflict}

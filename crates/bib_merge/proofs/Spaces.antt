@@ -1,14 +1,14 @@
 -- Only white space follows a unit.
-use Rattle.std.proofs.Common.{◌≡◌, None, ℕ, suc, ◌+◌, arith, Bool, true, false, not, cond, if◌then◌else◌, List, [], ◌∷◌, ◌++◌, take, drop, ◌&&◌, ◌||◌, refl, sym, ◌∙◌, ap, ap₂, subst, ⊎_elim}
+use Rattle.std.proofs.Common.{◌≡◌, None, ℕ, suc, ◌+◌, arith, Bool, true, false, not, cond, if◌then◌else◌, List, [], ◌∷◌, take, drop, ◌&&◌, ◌||◌, refl, sym, ◌∙◌, ap, ap₂, ⊎_elim}
 use Rattle.std.specs.List.{list_all, list_any, prefix_len}
-use Rattle.std.proofs.lemmas.Bool.{cases_Bool, or_cases, true≢false}
+use Rattle.std.proofs.lemmas.Bool.{cases_Bool, true≢false}
 use Rattle.std.proofs.lemmas.List.Folds.{list_all-append}
 use Rattle.bib_spec.specs.Text.{Text, is_space, after_run}
 use Rattle.bib_spec.specs.Tree.{Tree, CommentTree, DefinitionTree, PreambleTree, EntryTree}
 use Rattle.bib_spec.specs.Reading.{Item, Reading}
 use Rattle.bib_spec.specs.Texts.{Macros, is_empty, months, macros_after}
 use Rattle.bib_text.specs.Trimming.{up_to_last, before_run}
-use Rattle.merge_spec.specs.Units.{Spaced, front_space, end_space, text_units, units_in, units_from, first_space, spaced_of}
+use Rattle.merge_spec.specs.Units.{Spaced, end_space, text_units, units_in, units_from, spaced_of}
 
 -- only white space follows
 abbrev pub ends_in_space : Spaced → Bool

@@ -1,5 +1,5 @@
 -- A file of one side as a merge.
-use Rattle.std.proofs.Common.{◌≡◌, ◌≢◌, List, [], refl, sym, ◌∙◌, ap, subst}
+use Rattle.std.proofs.Common.{◌≡◌, List, [], sym, ◌∙◌, subst}
 use Rattle.bib_spec.specs.Text.{Text}
 use Rattle.bib_spec.specs.Reading.{Reading}
 use Rattle.bib_spec.specs.Texts.{Opens}
@@ -8,7 +8,7 @@ use Rattle.merge_spec.specs.Parents.{lost_keys}
 use Rattle.merge_spec.specs.Conflicts.{Conflict}
 use Rattle.bib_uses.specs.Lost.{lost_uses}
 use Rattle.bib_uses.specs.declared.losing.LostUse.{LostUse}
-use Rattle.bib_merge.specs.Merges.{IsMergeOf, IsMergeOfThree, IsFile, LeavesTheOther, AllDiffer}
+use Rattle.bib_merge.specs.Merges.{IsMergeOf, IsMergeOfThree, LeavesTheOther, AllDiffer}
 use Rattle.bib_merge.proofs.UnchangedSides.{ours-left, theirs-left, sides-same}
 
 -- a merge with other conflicts that are none

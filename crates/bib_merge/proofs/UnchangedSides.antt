@@ -12,9 +12,9 @@ use Rattle.std.proofs.lemmas.Slice.Eq.{bytes_eq-Decides}
 use Rattle.bib_spec.specs.Text.{Text, is_space}
 use Rattle.bib_spec.specs.Reading.{Reading, bytes_of}
 use Rattle.merge_spec.specs.Units.{Unit, Spaced, Label, EntryLabel, MacroLabel, BytesLabel, label_of, same_label, unit_bytes, spaced_bytes, spaced_of, units_of, first_space}
-use Rattle.merge_spec.specs.ThreeWay.{Outcome, Ours, Theirs, Gone, both_agree, is_left, is_unchanged}
-use Rattle.merge_spec.specs.Merged.{Place, unit_at, is_number, are_once, share_label, may_come, is_settled, place_bytes, merged_bytes, label_left, labels_left, is_seldom, are_seldom, is_merge}
-use Rattle.merge_spec.specs.Conflicts.{Conflict, conflict_at, conflicts_of}
+use Rattle.merge_spec.specs.ThreeWay.{Outcome, Ours, Theirs, Gone, both_agree, is_unchanged}
+use Rattle.merge_spec.specs.Merged.{Place, unit_at, is_number, are_once, share_label, may_come, is_settled, place_bytes, merged_bytes, label_left, labels_left, is_seldom, are_seldom}
+use Rattle.merge_spec.specs.Conflicts.{conflict_at, conflicts_of}
 use Rattle.merge_spec.proofs.UnitTexts.{units-are_the_file}
 use Rattle.bib_merge.specs.Bodies.{bodies_of, version_bodies, place_bodies, merged_bodies}
 use Rattle.bib_merge.specs.Merges.{IsMergeOf}

@@ -15,3 +15,4 @@ pub use dropping::entries_dropped;
 pub use exporting::{entries_plain, entries_ris};
 pub use fault::ImportFault;
 pub use importing::{Additions, import};
+pub use plain_records::in_plain;

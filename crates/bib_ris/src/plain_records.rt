@@ -66,7 +66,7 @@ fn plain_record(alloc: Global, ris: &RisRecord) -> Result<RisRecord, AllocError>
 }
 
 /// The record with its values as plain texts if it can be written then, or as it is.
-pub(crate) fn in_plain(alloc: Global, ris: RisRecord) -> Result<RisRecord, AllocError>
+pub fn in_plain(alloc: Global, ris: RisRecord) -> Result<RisRecord, AllocError>
     requires { is_well_formed ris ≡ true }
     ensures plain { IfOk result (λ r. r ≡ in_plain ris) }
     ensures fits { IfOk result (λ r. is_well_formed r ≡ true) }

@@ -43,16 +43,23 @@ use Rattle.bib_answers.specs.Names.{Spells, IsNamesAnswer, names_answer}
 use Rattle.bib_answers.specs.Lint.{lint_answer, fault_lines}
 use Rattle.bib_faults.specs.GoingOn.{Fault}
 use Rattle.bib_faults.proofs.GoingOnLaws.{one-list-of-faults}
+use Rattle.bibtex_answers.specs.Opened.{AnswersAsBibtex, IsFaultAsBibtex, if_plain}
+use Rattle.bibtex_answers.specs.Show as bibtex_show
+use Rattle.bibtex_answers.specs.Cite as bibtex_cite
+use Rattle.bibtex_answers.specs.Records as bibtex_records
+use Rattle.bibtex_ris.specs.Ris as bibtex_texts
+use Rattle.bibtex_answers.specs.StyleMacros.{with_style, place_in_file}
 use Rattle.bib_run.specs.EditAnswer.{whole}
 use Rattle.bib_run.specs.Shown.{kept_with}
 use Rattle.bib_run.specs.ImportAnswer.{import_fault_line, import_told, added_answer}
 use Rattle.bib_run.specs.Turns.{turned_line}
 use Rattle.bib_run.specs.Log.{log_text, journal_left}
+use Rattle.bib_words.specs.declared.verbs.Question.{Question}
 use Rattle.bib_words.specs.declared.verbs.Question.TheVariants.{Check, Show, Entry, Cite, Labels, Json, NewKeys, Ris, Extract}
 use Rattle.bib_words.specs.declared.verbs.Verb.{Verb}
 use Rattle.bib_words.specs.declared.verbs.Verb.TheVariants.{Asks, Cat, Lint, Names, Explain, Edit, Import, Insert, Merge, Diff, Undo, Redo, Log, Forget}
 use Rattle.bib_words.specs.Verbs.{verb_of}
-use Rattle.bib_run.specs.Answers.{Answers, IsEditsAnswer, IsWholeAnswer, question_answer, key_word, template_word}
+use Rattle.bib_run.specs.Answers.{Answers, AnswersBibtex, AnswersQuestion, IsEditsAnswer, IsWholeAnswer, question_answer, key_word, template_word}
 use Rattle.bib_run.specs.OneAnswer.{one_answer}
 use Rattle.bib_run.proofs.StoredRuns.{not_unopened, not_unfit, not_refused_with, opened-is}
 
@@ -80,6 +87,47 @@ one_of_file answers file a b (AnswersFile.opened db opens is) (AnswersFile.refus
 one_of_file answers file a b (AnswersFile.refused kind place told fault is) (AnswersFile.opened db opens is') = absurd (told (open_fault file kind place (db, opens) fault))
 one_of_file answers file a b (AnswersFile.refused kind place told fault is) (AnswersFile.refused kind' place' told' fault' is') =
     is ∙ same_refusal kind place kind' place' (one_open_fault file kind place kind' place' told told' fault fault') ∙ sym is'
+
+-- ---- commands that read the file as BibTeX does
+
+same_place : (kind place kind' place' : ℕ) → SamePlace kind place kind' place' → SamePlace kind (place_in_file place) kind' (place_in_file place')
+same_place kind place kind' place' same = (same.0, ap place_in_file same.1)
+
+one_fault_as_bibtex : (file : Text) (kind place kind' place' : ℕ) → kind ≢ 10 → kind' ≢ 10 → IsFaultAsBibtex file kind place → IsFaultAsBibtex file kind' place' → SamePlace kind place kind' place'
+one_fault_as_bibtex file kind place kind' place' told told' (IsFaultAsBibtex.own _ _ fault) (IsFaultAsBibtex.own _ _ fault') = one_open_fault file kind place kind' place' told told' fault fault'
+one_fault_as_bibtex file kind place kind' place' told told' (IsFaultAsBibtex.own _ _ fault) (IsFaultAsBibtex.with_macros _ at' opens' fault') = absurd (told (open_fault file kind place opens' fault))
+one_fault_as_bibtex file kind place kind' place' told told' (IsFaultAsBibtex.with_macros _ at opens fault) (IsFaultAsBibtex.own _ _ fault') = absurd (told' (open_fault file kind' place' opens fault'))
+one_fault_as_bibtex file kind place kind' place' told told' (IsFaultAsBibtex.with_macros _ at opens fault) (IsFaultAsBibtex.with_macros _ at' opens' fault') =
+    same_place kind at kind' at' (one_open_fault (with_style file) kind at kind' at' told told' fault fault')
+
+one_as_bibtex : (answers : Reading → Answer) (file : Text) → One (AnswersAsBibtex answers file)
+one_as_bibtex answers file a b (AnswersAsBibtex.opened db opens is) (AnswersAsBibtex.opened db' opens' is') =
+    is ∙ ap (if_plain answers) (one_reading name_limit (with_style file) db db' opens.reads opens'.reads) ∙ sym is'
+one_as_bibtex answers file a b (AnswersAsBibtex.opened db opens is) (AnswersAsBibtex.refused kind place other at told why past fault is') =
+    absurd (past (open_fault (with_style file) other at (db, opens) fault))
+one_as_bibtex answers file a b (AnswersAsBibtex.refused kind place other at told why past fault is) (AnswersAsBibtex.opened db opens is') =
+    absurd (past (open_fault (with_style file) other at (db, opens) fault))
+one_as_bibtex answers file a b (AnswersAsBibtex.refused kind place other at told why past fault is) (AnswersAsBibtex.refused kind' place' other' at' told' why' past' fault' is') =
+    is ∙ same_refusal kind place kind' place' (one_fault_as_bibtex file kind place kind' place' told told' why why') ∙ sym is'
+
+one_bibtex : (question : Question) (command : Command) (file : Text) → One (AnswersBibtex question command file)
+one_bibtex Show command file = one_as_bibtex (bibtex_show.show_answer (key_word command)) file
+one_bibtex Cite command file = one_as_bibtex (bibtex_cite.cite_answer command.strict (key_words command) command.n) file
+one_bibtex Json command file = one_as_bibtex (bibtex_records.json_answer (key_words command)) file
+one_bibtex Ris command file = one_as_bibtex (bibtex_texts.ris_answer command.dropped command.plain (key_words command)) file
+one_bibtex Check command file = λ a b none also. absurd none
+one_bibtex Entry command file = λ a b none also. absurd none
+one_bibtex Labels command file = λ a b none also. absurd none
+one_bibtex NewKeys command file = λ a b none also. absurd none
+one_bibtex Extract command file = λ a b none also. absurd none
+
+one_question : (question : Question) (command : Command) (file : Text) → One (AnswersQuestion question command file)
+one_question question command file a b (AnswersQuestion.as_ever off is) (AnswersQuestion.as_ever off' is') = one_of_file (question_answer question command) file a b is is'
+one_question question command file a b (AnswersQuestion.as_ever off is) (AnswersQuestion.as_bibtex on is') = absurd (false≢true (sym off ∙ on))
+one_question question command file a b (AnswersQuestion.as_bibtex on is) (AnswersQuestion.as_ever off is') = absurd (false≢true (sym off ∙ on))
+one_question question command file a b (AnswersQuestion.as_bibtex on is) (AnswersQuestion.as_bibtex on' is') = one_bibtex question command file a b is is'
+
+-- ---- commands that report on the file, or on the names of one entry
 
 -- the faults of reading have the numbers up to 7
 reading_is_low : (fault : ReadingFault) → 7 < fault_number fault → ⊥
@@ -379,7 +427,7 @@ one_whole command file journal input a b x y =
     x.whole ∙ ap (whole command.all_or_nothing) (one_edits command file journal input x.made y.made x.edits y.edits) ∙ sym y.whole
 
 one_of_verb : (verb : Verb) (command : Command) (file : Text) (journal : Option Text) (input : Text) → verb ≢ Explain → verb ≢ Diff → One (Answers verb command file journal input)
-one_of_verb (Asks question) command file journal input other undiffed = one_of_file (question_answer question command) file
+one_of_verb (Asks question) command file journal input other undiffed = one_question question command file
 one_of_verb Cat command file journal input other undiffed = one_cat file
 one_of_verb Lint command file journal input other undiffed = one_lint (key_words command) command.cited (first_word command) file
 one_of_verb Names command file journal input other undiffed = one_names command.depth (key_word command) (template_word command) file

@@ -12,7 +12,16 @@ use Rattle.bib_data.specs.declared.request.Request.TheVariants as request
 use Rattle.bib_run.specs.InsertAnswer.{HasInserted}
 use Rattle.bib_words.specs.declared.verbs.Verb.{Verb}
 use Rattle.bib_words.specs.declared.verbs.Verb.TheVariants.{Asks, Cat, Lint, Names, Explain, Edit, Import, Insert, Merge, Diff, Undo, Redo, Log, Forget}
+use Rattle.bib_words.specs.declared.verbs.Question.{Question}
+use Rattle.bib_words.specs.declared.verbs.Question.TheVariants.{Check, Show, Entry, Cite, Labels, Json, NewKeys, Ris, Extract}
 use Rattle.bib_words.specs.Verbs.{verb_of}
+use Rattle.bibtex_answers.specs.Opened as bibtex
+use Rattle.bibtex_answers.specs.Opened.{AnswersAsBibtex, IsFaultAsBibtex}
+use Rattle.bibtex_answers.specs.Show as bibtex_show
+use Rattle.bibtex_answers.specs.Cite as bibtex_cite
+use Rattle.bibtex_answers.specs.Records as bibtex_records
+use Rattle.bibtex_ris.specs.Ris as bibtex_texts
+use Rattle.bibtex_answers.specs.StyleMacros.{style_macros, with_style}
 use Rattle.bib_journal.proofs.LoadLemmas.{opened_short}
 use Rattle.aux_text.specs.declared.placing.AuxKeys.{AuxKeys}
 use Rattle.bib_answers.specs.Opened as opening
@@ -28,7 +37,7 @@ use Rattle.bib_diff.specs.Leading.{RefusesDiff}
 use Rattle.diff_answers.specs.Answers as comparing
 use Rattle.diff_answers.specs.Answers.{IsDiffAnswer}
 use Rattle.bib_run.specs.declared.reading.Sources.{Sources}
-use Rattle.bib_run.specs.Answers.{Answers, IsEditsAnswer, IsWholeAnswer, question_answer, key_word, template_word, script, words}
+use Rattle.bib_run.specs.Answers.{Answers, AnswersBibtex, AnswersQuestion, as_ever, as_bibtex, IsEditsAnswer, IsWholeAnswer, question_answer, key_word, template_word, script, words}
 use Rattle.bib_run.specs.Sources.{front, fronts}
 use Rattle.bib_run.specs.Inputs as inputs
 use Rattle.bib_run.specs.Inputs.{answered}
@@ -94,6 +103,39 @@ AnswersFile-long : (answers : Reading → Answer) (bytes : Text) (answer : Answe
     → AnswersFile answers (take (file_limit + 1) bytes) answer → AnswersFile answers bytes answer
 AnswersFile-long answers bytes answer long (opened db opens is) = absurd (let within = opens.short in omega (arith, long, within, length-take-le (file_limit + 1) bytes (omega (arith, long))))
 AnswersFile-long answers bytes answer long (opening.refused kind place other fault is) = opening.refused kind place other (IsOpenFault-long bytes kind place long fault) is
+
+-- so is one that is opened after the macros of the style
+style_is_long : (bytes : Text) → file_limit < length bytes → file_limit < length (with_style bytes)
+style_is_long bytes long = let both = length-append style_macros bytes in omega (arith, long, both)
+
+IsFaultAsBibtex-long : (bytes : Text) (kind place : ℕ) → file_limit < length bytes → IsFaultAsBibtex (take (file_limit + 1) bytes) kind place → IsFaultAsBibtex bytes kind place
+IsFaultAsBibtex-long bytes kind place long (bibtex.own _ _ fault) = bibtex.own kind place (IsOpenFault-long bytes kind place long fault)
+IsFaultAsBibtex-long bytes kind place long (bibtex.with_macros _ at opens fault) =
+    absurd (let within = opens.1.short in omega (arith, long, within, length-take-le (file_limit + 1) bytes (omega (arith, long))))
+
+AnswersAsBibtex-long : (answers : Reading → Answer) (bytes : Text) (answer : Answer) → file_limit < length bytes
+    → AnswersAsBibtex answers (take (file_limit + 1) bytes) answer → AnswersAsBibtex answers bytes answer
+AnswersAsBibtex-long answers bytes answer long (bibtex.opened db opens is) =
+    absurd (let within = opens.short in let both = length-append style_macros (take (file_limit + 1) bytes) in omega (arith, long, within, both, length-take-le (file_limit + 1) bytes (omega (arith, long))))
+AnswersAsBibtex-long answers bytes answer long (bibtex.refused kind place other at told fault told' fault' is) =
+    bibtex.refused kind place 9 file_limit told (IsFaultAsBibtex-long bytes kind place long fault) (λ e. omega (arith, e)) (inl (too_long (style_is_long bytes long))) is
+
+AnswersBibtex-long : (question : Question) (command : Command) (bytes : Text) (answer : Answer) → file_limit < length bytes
+    → AnswersBibtex question command (take (file_limit + 1) bytes) answer → AnswersBibtex question command bytes answer
+AnswersBibtex-long Show command bytes answer long = AnswersAsBibtex-long (bibtex_show.show_answer (key_word command)) bytes answer long
+AnswersBibtex-long Cite command bytes answer long = AnswersAsBibtex-long (bibtex_cite.cite_answer command.strict (key_words command) command.n) bytes answer long
+AnswersBibtex-long Json command bytes answer long = AnswersAsBibtex-long (bibtex_records.json_answer (key_words command)) bytes answer long
+AnswersBibtex-long Ris command bytes answer long = AnswersAsBibtex-long (bibtex_texts.ris_answer command.dropped command.plain (key_words command)) bytes answer long
+AnswersBibtex-long Check command bytes answer long = λ none. absurd none
+AnswersBibtex-long Entry command bytes answer long = λ none. absurd none
+AnswersBibtex-long Labels command bytes answer long = λ none. absurd none
+AnswersBibtex-long NewKeys command bytes answer long = λ none. absurd none
+AnswersBibtex-long Extract command bytes answer long = λ none. absurd none
+
+AnswersQuestion-long : (question : Question) (command : Command) (bytes : Text) (answer : Answer) → file_limit < length bytes
+    → AnswersQuestion question command (take (file_limit + 1) bytes) answer → AnswersQuestion question command bytes answer
+AnswersQuestion-long question command bytes answer long (as_ever off is) = as_ever off (AnswersFile-long (question_answer question command) bytes answer long is)
+AnswersQuestion-long question command bytes answer long (as_bibtex on is) = as_bibtex on (AnswersBibtex-long question command bytes answer long is)
 
 -- a file that is too long is not opened, with whatever journal
 front_is_long : (bytes : Text) → file_limit < length bytes → length (take (file_limit + 1) bytes) ≤ file_limit → ⊥
@@ -183,7 +225,7 @@ IsDiffAnswer-long name other bytes new answer long (comparing.refused fault told
 
 Answers-long : (verb : Verb) (command : Command) (bytes : Text) (journal : Option Text) (input : Text) (answer : Answer) → file_limit < length bytes
     → Answers verb command (take (file_limit + 1) bytes) journal input answer → Answers verb command bytes journal input answer
-Answers-long (Asks question) command bytes journal input answer long = AnswersFile-long (question_answer question command) bytes answer long
+Answers-long (Asks question) command bytes journal input answer long = AnswersQuestion-long question command bytes answer long
 Answers-long Cat command bytes journal input answer long = IsCatAnswer-long bytes answer long
 Answers-long Lint command bytes journal input answer long = IsLintAnswer-long (key_words command) command.cited (first_word command) bytes answer long
 Answers-long Names command bytes journal input answer long = IsNamesAnswer-long command.depth (key_word command) (template_word command) bytes answer long

@@ -1,5 +1,5 @@
 -- What each command answers to the bytes of its sources.
-use Rattle.std.specs.Prelude.{◌≡◌, ◌≢◌, List, [], length, drop, slice_index_or, codes, Option, IsSomeAnd}
+use Rattle.std.specs.Prelude.{◌≡◌, ◌≢◌, true, false, List, [], length, drop, slice_index_or, codes, Option, IsSomeAnd}
 use Rattle.bib_spec.specs.Text.{Text}
 use Rattle.bib_spec.specs.Reading.{Reading}
 use Rattle.bib_words.specs.declared.commands.Command.{Command}
@@ -23,6 +23,11 @@ use Rattle.bib_answers.specs.Lint.{IsLintAnswer}
 use Rattle.bib_run.specs.Explaining.{IsExplainAnswer}
 use Rattle.bib_run.specs.Ris.{ris_answer}
 use Rattle.bib_answers.specs.Names.{IsNamesAnswer}
+use Rattle.bibtex_answers.specs.Opened.{AnswersAsBibtex}
+use Rattle.bibtex_answers.specs.Show as bibtex_show
+use Rattle.bibtex_answers.specs.Cite as bibtex_cite
+use Rattle.bibtex_answers.specs.Records as bibtex_records
+use Rattle.bibtex_ris.specs.Ris as bibtex_texts
 use Rattle.bib_data.specs.declared.request.Request.TheVariants as request
 use Rattle.bib_run.specs.EditAnswer.{IsEditAnswer, IsWordsAnswer, whole}
 use Rattle.bib_run.specs.ImportAnswer.{IsImportAnswer}
@@ -61,6 +66,19 @@ question_answer NewKeys command = newkeys_answer command.depth
 question_answer Ris command = ris_answer command.dropped command.plain command.depth (key_words command)
 question_answer Extract command = extract_answer (key_words command)
 
+-- what a command answers to its file with `--bibtex`; the other commands do not take the option
+abbrev pub AnswersBibtex : Question → Command → Text → Answer → Type 0
+AnswersBibtex Show command = AnswersAsBibtex (bibtex_show.show_answer (key_word command))
+AnswersBibtex Cite command = AnswersAsBibtex (bibtex_cite.cite_answer command.strict (key_words command) command.n)
+AnswersBibtex Json command = AnswersAsBibtex (bibtex_records.json_answer (key_words command))
+AnswersBibtex Ris command = AnswersAsBibtex (bibtex_texts.ris_answer command.dropped command.plain (key_words command))
+AnswersBibtex _ command = λ file answer. ⊥
+
+-- what a command answers to its file: to what the file says, or with `--bibtex` to what BibTeX reads in it
+pub data AnswersQuestion (question : Question) (command : Command) (file : Text) (answer : Answer) : Type 0 where
+  as_ever : command.bibtex ≡ false → AnswersFile (question_answer question command) file answer → AnswersQuestion question command file answer
+  as_bibtex : command.bibtex ≡ true → AnswersBibtex question command file answer → AnswersQuestion question command file answer
+
 -- what `edit` answers: to a script, or to the words of one edit if words follow the file
 pub data IsEditsAnswer (command : Command) (file : Text) (journal : Option Text) (input : Text) (answer : Answer) : Type 0 where
   script : length command.words ≡ 1 → IsEditAnswer command.new_journal file journal input answer → IsEditsAnswer command file journal input answer
@@ -74,7 +92,7 @@ pub record IsWholeAnswer (command : Command) (file : Text) (journal : Option Tex
 
 -- what each command answers to a file, and to its journal and its input if it reads them, when what is new is to be stored
 abbrev pub Answers : Verb → Command → Text → Option Text → Text → Answer → Type 0
-Answers (Asks question) command file journal input = AnswersFile (question_answer question command) file
+Answers (Asks question) command file journal input = AnswersQuestion question command file
 Answers Cat command file journal input = IsCatAnswer file
 Answers Lint command file journal input = IsLintAnswer (key_words command) command.cited (first_word command) file
 Answers Names command file journal input = IsNamesAnswer command.depth (key_word command) (template_word command) file

@@ -1,10 +1,11 @@
 //! What each command answers to the bytes of its sources.
 
-ghost use Rattle.std.specs.Prelude.{◌≡◌, ◌≤◌, IfOk, option_map, length};
+ghost use Rattle.std.specs.Prelude.{◌≡◌, ◌≤◌, true, IfOk, option_map, length};
 ghost use Rattle.bib_words.specs.Command.{HasItsWords, IsCommand};
-ghost use Rattle.bib_words.specs.Verbs.{question_shape, shape};
+ghost use Rattle.bib_words.specs.Verbs.{question_shape, shape, takes_bibtex};
+ghost use Rattle.bib_words.specs.declared.verbs.Verb.TheVariants.{Asks};
 ghost use Rattle.bib_answers.specs.Opened.{AnswersFile};
-ghost use Rattle.bib_run.specs.Answers.{Answers, IsAnswer, IsEditsAnswer, IsWholeAnswer, IsStoredAnswer, question_answer};
+ghost use Rattle.bib_run.specs.Answers.{Answers, AnswersBibtex, AnswersQuestion, IsAnswer, IsEditsAnswer, IsWholeAnswer, IsStoredAnswer, question_answer};
 ghost use Rattle.bib_run.specs.Shown.{printed, shown, without_journal, kept_with};
 
 use crate::commands::edit::{answer_edit, answer_words, whole};
@@ -22,6 +23,8 @@ use bib_answers::{
 };
 use bib_scan::Text;
 use bib_words::{Command, Question, Verb};
+use bibtex_answers::{answer_cite_as_bibtex, answer_json_as_bibtex, answer_show_as_bibtex};
+use bibtex_ris::answer_ris_as_bibtex;
 use diff_answers::answer_diff;
 use std::alloc::{AllocError, Global};
 
@@ -154,12 +157,13 @@ fn answer_verb(
     journal: Option<&[u8]>,
     input: &[u8],
 ) -> Result<Answer, AllocError>
-    requires { HasItsWords (shape verb) command.now }
+    requires words { HasItsWords (shape verb) command.now }
+    requires bibtex { command.now.bibtex ≡ true → takes_bibtex verb ≡ true }
     ensures { IfOk result (Answers verb command.now file.items (option_map (λ text. text.now) journal.entry) input.now) }
 {
     let new_journal = command.new_journal;
     match verb {
-        Verb::Asks(question) => answer_question(alloc, question, command, file),
+        Verb::Asks(question) => answer_asked(alloc, question, command, file),
         Verb::Cat => answer_cat(alloc, file),
         Verb::Lint => {
             let ignored = command.words_after_file();
@@ -186,6 +190,49 @@ fn answer_verb(
         Verb::Log => answer_log(alloc, file, journal),
         Verb::Forget => answer_forget(alloc, file),
         Verb::Merge => answer_apart(alloc),
+    }
+}
+
+/// What each command that reads a file alone answers to it, with `--bibtex` or without.
+fn answer_asked(
+    alloc: Global,
+    question: Question,
+    command: &Command,
+    file: Vec<u8>,
+) -> Result<Answer, AllocError>
+    requires words { HasItsWords (question_shape question) command.now }
+    requires bibtex { command.now.bibtex ≡ true → takes_bibtex (Asks question) ≡ true }
+    ensures { IfOk result (AnswersQuestion question command.now file.items) }
+{
+    if command.bibtex {
+        return answer_as_bibtex(alloc, question, command, file);
+    }
+    answer_question(alloc, question, command, file)
+}
+
+/// What each command that takes `--bibtex` answers with it.
+fn answer_as_bibtex(
+    alloc: Global,
+    question: Question,
+    command: &Command,
+    file: Vec<u8>,
+) -> Result<Answer, AllocError>
+    requires words { HasItsWords (question_shape question) command.now }
+    requires bibtex { takes_bibtex (Asks question) ≡ true }
+    ensures { IfOk result (AnswersBibtex question command.now file.items) }
+{
+    match question {
+        Question::Show => answer_show_as_bibtex(alloc, file, command.word(1)),
+        Question::Cite => {
+            let keys = command.words_after_file();
+            answer_cite_as_bibtex(alloc, file, keys, command.n, command.strict)
+        }
+        Question::Json => answer_json_as_bibtex(alloc, file, command.words_after_file()),
+        Question::Ris => {
+            let keys = command.words_after_file();
+            answer_ris_as_bibtex(alloc, file, keys, command.dropped, command.plain)
+        }
+        _ => unreachable!(),
     }
 }
 

@@ -5,7 +5,7 @@ use Rattle.bib_spec.specs.Records.{depth_limit}
 use Rattle.bib_words.specs.declared.commands.Command.{Command}
 use Rattle.bib_words.specs.declared.verbs.Shape.{Shape}
 use Rattle.bib_words.specs.declared.verbs.Verb.{Verb}
-use Rattle.bib_words.specs.Verbs.{verb_of, shape, adds_change, makes_file, reads_journal, takes_input, takes_print, takes_dropped, takes_at, takes_scripts, takes_strict, takes_latex, takes_raw, takes_skipped, takes_plain, takes_others}
+use Rattle.bib_words.specs.Verbs.{verb_of, shape, adds_change, makes_file, reads_journal, takes_input, takes_print, takes_dropped, takes_at, takes_scripts, takes_strict, takes_latex, takes_raw, takes_skipped, takes_plain, takes_bibtex, takes_others}
 
 -- the greatest number that a command takes (dialect)
 abbrev pub number_limit : ℕ
@@ -39,8 +39,8 @@ pub record HasItsWords (shape : Shape) (c : Command) : Type 0 where
 
 -- the command takes each option that is given: `--print` if it makes a file or is `merge`, `--new-journal` and `--no-journal` if it adds a
 -- change, `--all-or-nothing` if it takes scripts, `--dropped` if it is `ris`, `--at` if it is `entry`, `--strict` if it is `cite`
--- or `import`, `--latex` and `--skipped` if it is `import`, `--raw` if it is `json`, `--plain` if it is `ris`, `--before` and `--after` if
--- it reads other files too (dialect)
+-- or `import`, `--latex` and `--skipped` if it is `import`, `--raw` if it is `json`, `--plain` if it is `ris`, `--bibtex` if it
+-- is `show`, `cite`, `json` or `ris` and its file is the only one, `--before` and `--after` if it reads other files too (dialect)
 pub record HasItsOptions (verb : Verb) (c : Command) : Type 0 where
   pub print : c.print ≡ true → takes_print verb ≡ true
   pub new_journal : c.new_journal ≡ true → adds_change verb ≡ true
@@ -53,6 +53,8 @@ pub record HasItsOptions (verb : Verb) (c : Command) : Type 0 where
   pub raw : c.raw ≡ true → takes_raw verb ≡ true
   pub skipped : c.skipped ≡ true → takes_skipped verb ≡ true
   pub plain : c.plain ≡ true → takes_plain verb ≡ true
+  pub bibtex : c.bibtex ≡ true → takes_bibtex verb ≡ true
+  pub bibtex_alone : c.bibtex ≡ true → has_others c ≡ false
   pub others : has_others c ≡ true → takes_others verb ≡ true
 
 -- this command of the program, with its words and options

@@ -149,6 +149,14 @@ abbrev pub takes_plain : Verb → Bool
 takes_plain (Asks Ris) = true
 takes_plain _ = false
 
+-- the commands that take `--bibtex`
+abbrev pub takes_bibtex : Verb → Bool
+takes_bibtex (Asks Show) = true
+takes_bibtex (Asks Cite) = true
+takes_bibtex (Asks Json) = true
+takes_bibtex (Asks Ris) = true
+takes_bibtex _ = false
+
 -- the commands that read other files too, before and after their own
 abbrev pub takes_others : Verb → Bool
 takes_others (Asks Entry) = false

@@ -15,7 +15,7 @@ const DEPTH_LIMIT: u8 = 8;
 /// the names of the aux files that cite more keys, and of the files that are read before its own and after it; for `lint`, the keys
 /// that the aux files cite, file by file, each with its place; its number, and the depth of the records that it shows, each 0 if the
 /// command takes none; and whether its options `--print`, `--new-journal`, `--no-journal`, `--all-or-nothing`, `--dropped`, `--at`,
-/// `--strict`, `--latex`, `--raw`, `--skipped` and `--plain` were given.
+/// `--strict`, `--latex`, `--raw`, `--skipped`, `--plain` and `--bibtex` were given.
 #[derive(Drop)]
 pub struct Command {
     pub name: Text,
@@ -37,11 +37,12 @@ pub struct Command {
     pub raw: bool,
     pub skipped: bool,
     pub plain: bool,
+    pub bibtex: bool,
 }
 
 impl Command {
-    ghost use Rattle.std.specs.Prelude.{◌≡◌, ◌↔◌, ◌<◌, ◌≤◌, [], true, IsTrue, length, drop, slice_index_or};
-    ghost use Rattle.bib_words.specs.Verbs.{verb_of, takes_print, adds_change, takes_scripts, takes_dropped, takes_at, takes_strict, takes_others, takes_latex, takes_raw, takes_skipped, takes_plain};
+    ghost use Rattle.std.specs.Prelude.{◌≡◌, ◌↔◌, ◌<◌, ◌≤◌, [], true, false, IsTrue, length, drop, slice_index_or};
+    ghost use Rattle.bib_words.specs.Verbs.{verb_of, takes_print, adds_change, takes_scripts, takes_dropped, takes_at, takes_strict, takes_others, takes_latex, takes_raw, takes_skipped, takes_plain, takes_bibtex};
     ghost use Rattle.bib_words.specs.Command.{HasItsWords, HasItsOptions, has_others, AddsChange, MakesFile, IsCommand, ReadsJournal, TakesInput};
 
     /// Whether the command has this name. It takes no memory.
@@ -159,14 +160,17 @@ impl Command {
             && is_allowed(self.has_others(), verb.takes_others())
     }
 
-    /// Whether the command has each option that is given of those that say how texts are written, and which lines are listed.
+    /// Whether the command has each option that is given of those that say how texts are written, which lines are listed, and who
+    /// reads the file.
     fn has_its_forms(&self, verb: Verb) -> bool
-        ensures { IsTrue result ↔ ((self.now.latex ≡ true → takes_latex verb ≡ true) × (self.now.raw ≡ true → takes_raw verb ≡ true) × (self.now.skipped ≡ true → takes_skipped verb ≡ true) × (self.now.plain ≡ true → takes_plain verb ≡ true)) }
+        ensures { IsTrue result ↔ ((self.now.latex ≡ true → takes_latex verb ≡ true) × (self.now.raw ≡ true → takes_raw verb ≡ true) × (self.now.skipped ≡ true → takes_skipped verb ≡ true) × (self.now.plain ≡ true → takes_plain verb ≡ true) × (self.now.bibtex ≡ true → takes_bibtex verb ≡ true) × (self.now.bibtex ≡ true → has_others self.now ≡ false)) }
     {
         is_allowed(self.latex, verb.takes_latex())
             && is_allowed(self.raw, verb.takes_raw())
             && is_allowed(self.skipped, verb.takes_skipped())
             && is_allowed(self.plain, verb.takes_plain())
+            && is_allowed(self.bibtex, verb.takes_bibtex())
+            && is_allowed(self.bibtex, !self.has_others())
     }
 
     /// Whether the command has as many arguments as this shape takes, and the number, the depth and the aux files that it

@@ -1,7 +1,7 @@
 //! The commands as data: what each takes and reads.
 
 ghost use Rattle.std.specs.Prelude.{◌≡◌, bytes_eq};
-ghost use Rattle.bib_words.specs.Verbs.{adds_change, makes_file, reads_journal, takes_input, takes_dropped, takes_at, takes_scripts, takes_strict, takes_latex, takes_raw, takes_skipped, takes_plain, takes_others, takes_print, question_shape, shape, verb_of};
+ghost use Rattle.bib_words.specs.Verbs.{adds_change, makes_file, reads_journal, takes_input, takes_dropped, takes_at, takes_scripts, takes_strict, takes_latex, takes_raw, takes_skipped, takes_plain, takes_bibtex, takes_others, takes_print, question_shape, shape, verb_of};
 
 /// A command that answers what its file says, and reads nothing else.
 #[derive(Clone, Copy, Debug, PartialEq, Eq)]
@@ -239,6 +239,19 @@ impl Verb {
         ensures { result ≡ takes_plain self }
     {
         matches!(self, Verb::Asks(Question::Ris))
+    }
+
+    /// Whether the command takes `--bibtex`.
+    pub fn takes_bibtex(self) -> bool
+        ensures { result ≡ takes_bibtex self }
+    {
+        match self {
+            Verb::Asks(question) => matches!(
+                question,
+                Question::Show | Question::Cite | Question::Json | Question::Ris
+            ),
+            _ => false,
+        }
     }
 
     /// Whether the command reads other files too, before and after its own.

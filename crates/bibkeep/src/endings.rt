@@ -1,6 +1,6 @@
 //! What the program says at the end, and the status with which it ends.
 
-ghost use Rattle.std.specs.Prelude.{◌≡◌, ◌≢◌, ◌⊎◌, true, false};
+ghost use Rattle.std.specs.Prelude.{◌≡◌, ◌≢◌, ◌⊎◌, true, false, codes};
 ghost use Rattle.bib_taps.specs.Taps.{tap_inner, has_failed};
 ghost use Rattle.bib_run.specs.Transfers.{Tells};
 
@@ -38,7 +38,8 @@ pub fn end<E: Write>(errors: &mut Tap<E>, text: &[u8], status: u8) -> u8
 
 /// The words of the command line could not be read: memory ran out, or they are not UTF-8.
 pub fn end_without_words<E: Write>(errors: &mut Tap<E>, error: &io::Error) -> u8
-    ensures { (result ≡ 2) ⊎ (result ≡ 4) }
+    ensures status { (result ≡ 2) ⊎ (result ≡ 4) }
+    ensures told { result ≡ 2 → Tells (E.contents (tap_inner errors.old)) (E.contents (tap_inner errors.new)) (codes "error: the words of the command line are not UTF-8\n") (has_failed errors.new) }
 {
     if error.kind() == ErrorKind::OutOfMemory {
         return end(errors, MEMORY, status::MEMORY);
@@ -52,7 +53,8 @@ pub fn end_without_words<E: Write>(errors: &mut Tap<E>, error: &io::Error) -> u8
 
 /// The file or its journal could not be opened.
 pub fn end_unopened<E: Write>(errors: &mut Tap<E>, error: &io::Error) -> u8
-    ensures { (result ≡ 3) ⊎ (result ≡ 4) }
+    ensures status { (result ≡ 3) ⊎ (result ≡ 4) }
+    ensures told { result ≡ 3 → Tells (E.contents (tap_inner errors.old)) (E.contents (tap_inner errors.new)) (codes "bibkeep: read fault\n") (has_failed errors.new) }
 {
     if error.kind() == ErrorKind::OutOfMemory {
         return end(errors, MEMORY, status::MEMORY);
@@ -98,7 +100,8 @@ fn end_in<E: Write>(errors: &mut Tap<E>, text: &[u8], path: &[u8], status: u8) -
 
 /// No command has this many words.
 pub fn end_unknown<E: Write>(errors: &mut Tap<E>) -> u8
-    ensures { result ≡ 2 }
+    ensures status { result ≡ 2 }
+    ensures told { Tells (E.contents (tap_inner errors.old)) (E.contents (tap_inner errors.new)) (codes "error: no command has such words\n") (has_failed errors.new) }
 {
     end(
         errors,
@@ -109,7 +112,9 @@ pub fn end_unknown<E: Write>(errors: &mut Tap<E>) -> u8
 
 /// Help and the version go to standard output, and a mistake to standard error.
 pub fn end_usage<O: Write, E: Write>(out: &mut Tap<O>, errors: &mut Tap<E>, usage: &Usage) -> u8
-    ensures { (result ≡ usage.now.status) ⊎ ((usage.now.status ≡ 0) × (result ≡ 3)) }
+    ensures status { (result ≡ usage.now.status) ⊎ ((usage.now.status ≡ 0) × (result ≡ 3)) }
+    ensures shown { usage.now.status ≡ 0 → Tells (O.contents (tap_inner out.old)) (O.contents (tap_inner out.new)) usage.now.text (has_failed out.new) }
+    ensures told { usage.now.status ≢ 0 → usage.now.status ≢ 4 → Tells (E.contents (tap_inner errors.old)) (E.contents (tap_inner errors.new)) usage.now.text (has_failed errors.new) }
 {
     match usage.status {
         status::DONE => {

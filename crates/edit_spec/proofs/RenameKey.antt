@@ -97,7 +97,7 @@ module _ (from to : Text) (entries : List EntryTexts) (can : CanRenameKey from t
     undangled = λ n key e j entry text s dangles says. ap (λ k. same k text) (sym (gets n key e).1) ∙ dangling_among entries entries j entry text to s dangles says can.undangled;
   }
 
-can_rename_key : (key_base : Record → Text) (db : Reading) (from to : Text) → IsAccepted key_base db (RenameKey from to) → CanRenameKey from to (entries_of db)
+pub can_rename_key : (key_base : Record → Text) (db : Reading) (from to : Text) → IsAccepted key_base db (RenameKey from to) → CanRenameKey from to (entries_of db)
 can_rename_key key_base db from to accepted = record {
   is_key = (and_parts (is_new_key to) true (true_from_ne_false (is_new_key to && true) (accepted BadKey))).0;
   once = there_once (count_by (is_named from) (keys_of (entries_of db))) (accepted NotFound) (accepted Ambiguous);

@@ -14,7 +14,7 @@ mapped None rest found is = is
 mapped (Some page) rest found is = refl
 
 -- the faults of a group, and of those after it
-group : (p : Head → Bool) (xs ys : List Head) (a rest : Option Page) → option_map head_of a ≡ find p xs → option_map head_of rest ≡ find p ys → option_map head_of (option_or a rest) ≡ find p (xs ++ ys)
+pub group : (p : Head → Bool) (xs ys : List Head) (a rest : Option Page) → option_map head_of a ≡ find p xs → option_map head_of rest ≡ find p ys → option_map head_of (option_or a rest) ≡ find p (xs ++ ys)
 group p xs ys a rest is also =
     mapped a rest (find p ys) also ∙ ap (λ (o : Option Head). option_or o (find p ys)) is ∙ sym (find-append p xs ys)
 

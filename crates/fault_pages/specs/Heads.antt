@@ -37,17 +37,28 @@ faults_of_limits =
     ∷ (codes "10", codes "Memory")
     ∷ []
 
--- what you ask for is not there, or cannot be written
-abbrev pub faults_of_questions : List Head
-faults_of_questions =
+-- what you ask for is not there, or BibTeX may say something else
+abbrev pub faults_of_requests : List Head
+faults_of_requests =
     (codes "11", codes "NoSuchEntry")
     ∷ (codes "12", codes "BadSplice")
     ∷ (codes "13", codes "NoSuchFault")
-    ∷ (codes "21", codes "TooManyCommas")
+    ∷ (codes "14", codes "NotPlain")
+    ∷ (codes "15", codes "TooDeep")
+    ∷ []
+
+-- names or texts cannot be written
+abbrev pub faults_of_texts : List Head
+faults_of_texts =
+    (codes "21", codes "TooManyCommas")
     ∷ (codes "22", codes "UnbalancedName")
     ∷ (codes "23", codes "BadTemplate")
     ∷ (codes "24", codes "NotUtf8")
     ∷ []
+
+-- a question is not answered
+abbrev pub faults_of_questions : List Head
+faults_of_questions = faults_of_requests ++ faults_of_texts
 
 -- an edit is refused, or no edits are found
 abbrev pub faults_of_edits : List Head

@@ -2,7 +2,7 @@
 
 ghost use Rattle.std.specs.Prelude.{◌≡◌, find};
 ghost use Rattle.std.specs.Option.{option_map};
-ghost use Rattle.fault_pages.specs.Heads.{head_of, is_asked, faults_of_bytes, faults_of_limits, faults_of_questions, faults_of_edits, faults_of_journals, faults_of_inputs};
+ghost use Rattle.fault_pages.specs.Heads.{head_of, is_asked, faults_of_bytes, faults_of_limits, faults_of_requests, faults_of_texts, faults_of_edits, faults_of_journals, faults_of_inputs};
 
 use crate::asking::{Page, is_asked};
 
@@ -90,9 +90,9 @@ pub(crate) fn faults_of_limits(word: &[u8]) -> Option<Page>
     None
 }
 
-/// The page on one of these faults, if the word names one: what you ask for is not there, or cannot be written.
-pub(crate) fn faults_of_questions(word: &[u8]) -> Option<Page>
-    ensures { option_map head_of result ≡ find (is_asked word.now) faults_of_questions }
+/// The page on one of these faults, if the word names one: what you ask for is not there, or BibTeX may say something else.
+pub(crate) fn faults_of_requests(word: &[u8]) -> Option<Page>
+    ensures { option_map head_of result ≡ find (is_asked word.now) faults_of_requests }
 {
     if is_asked(word, b"11", b"NoSuchEntry") {
         return Some(Page {
@@ -115,6 +115,27 @@ pub(crate) fn faults_of_questions(word: &[u8]) -> Option<Page>
             text: b"`explain` takes the number or the name of a fault, and the word that you gave is neither.\n\n  $ bibkeep explain 99\n  bibkeep: 13 NoSuchFault\n\nGive the number or the name that the message has, without `bibkeep:`.\n",
         });
     }
+    if is_asked(word, b"14", b"NotPlain") {
+        return Some(Page {
+            number: b"14",
+            name: b"NotPlain",
+            text: b"With `--bibtex` bibkeep answers only if BibTeX would read the same items of the file, and of this file it might read others. The\noffset is that of an at-sign. It is there for one of these reasons:\n\n- Something that begins at the at-sign before ends in the last line of the file. BibTeX reads nothing after it.\n- The at-sign is in an entry whose key an earlier entry has. BibTeX reads such an entry up to its key, and then looks for the next\n  at-sign, even inside the entry.\n- The name after the at-sign is not one that bibkeep reads: it has another at-sign or a DEL byte (127) in it, or more than 255\n  bytes.\n\n  $ printf '@misc{a,\\n  note = 1}@misc{b}\\n' > last.bib\n  $ bibkeep cite last.bib --bibtex '*'\n  bibkeep: 14 NotPlain at 20\n  $ echo >> last.bib; bibkeep cite last.bib --bibtex '*'\n  a\n  b\n  $ printf '@misc{a}\\n@misc{a, note = {joe@x.org}}\\n\\n' > again.bib\n  $ bibkeep cite again.bib --bibtex a\n  bibkeep: 14 NotPlain at 29\n\nIf the at-sign is in the last line, end the file with an empty line. Take a repeated entry out: `bibkeep lint F` finds it. In the\nthird case remove the at-sign. There are files of which BibTeX would read the same items all the same; bibkeep refuses these too.\n",
+        });
+    }
+    if is_asked(word, b"15", b"TooDeep") {
+        return Some(Page {
+            number: b"15",
+            name: b"TooDeep",
+            text: b"With `--bibtex` an entry that is listed would inherit from more than 64 entries, one after another. bibkeep refuses this, so that\nits answer cannot be much longer than the file.\n\n  $ (printf '@misc{k0}\\n'; seq 65 | awk '{ printf \"@misc{k%d, crossref = {k%d}}\\n\", $1, $1 - 1 }'; echo) > deep.bib\n  $ bibkeep cite deep.bib --bibtex '*'\n  bibkeep: 15 TooDeep\n\nLook for the entries whose parents have parents: `bibkeep lint F` names each as a `nested-parent`. Give the entries their fields, and\ntake out the crossrefs that are no longer needed.\n",
+        });
+    }
+    None
+}
+
+/// The page on one of these faults, if the word names one: names or texts cannot be written.
+pub(crate) fn faults_of_texts(word: &[u8]) -> Option<Page>
+    ensures { option_map head_of result ≡ find (is_asked word.now) faults_of_texts }
+{
     if is_asked(word, b"21", b"TooManyCommas") {
         return Some(Page {
             number: b"21",

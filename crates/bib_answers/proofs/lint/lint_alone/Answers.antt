@@ -1,4 +1,4 @@
-use Rattle.bib_answers.proofs.Words.{ℕ, List, ◌∷◌, [], ◌∙◌, ap, subst, sym, IfOk-weaker, Text}
+use Rattle.bib_answers.proofs.Words.{List, ◌∷◌, [], ◌∙◌, ap, subst, sym, IfOk-weaker, Text}
 use Rattle.bib_shelf.specs.Joined.{AreJoined}
 use Rattle.bib_answers.specs.NamedFiles.{NamedFiles}
 use Rattle.bib_answers.specs.Lint.{files_answer}

@@ -1,5 +1,5 @@
 use Rattle.bib_answers.proofs.Words.{◌==◌, ◌≡◌, ◌∙◌, ◌++◌, ◌∷◌, ◌<◌, ◌≤◌, [], List, Some, length, refl, sym, ap, subst}
-use Rattle.std.proofs.Common.{arith, slice_index_or}
+use Rattle.std.proofs.Common.{arith}
 use Rattle.entry_json.specs.declared.raw.Standing.{Standing}
 use Rattle.bib_scan.specs.Layout.{start_of}
 use Rattle.bib_shelf.specs.Joined.{located_in}

@@ -1,4 +1,4 @@
-use Rattle.bib_answers.proofs.Words.{◌≡◌, ◌∙◌, true, false, List, [], ap, refl, sym, cond-true, cond-false, on_ok_weaker, field_seen, Finding, with_findings, Text}
+use Rattle.bib_answers.proofs.Words.{◌∙◌, true, false, List, [], ap, refl, sym, cond-true, cond-false, on_ok_weaker, field_seen, Finding, with_findings, Text}
 use Rattle.bib_spec.specs.Texts.{raw_text, field_text}
 use Rattle.bib_answers.specs.Lint.{has_uses, text_findings}
 use Rattle.bib_answers.proofs.FindingSteps.{findings_none}

@@ -1,6 +1,5 @@
-use Rattle.bib_answers.proofs.Words.{◌≡◌, ◌∙◌, ◌≤◌, true, sym, ap, subst, false≢true}
+use Rattle.bib_answers.proofs.Words.{◌∙◌, ◌≤◌, sym, ap, subst, false≢true}
 use Rattle.std.proofs.Common.{count_by}
-use Rattle.bib_spec.specs.Tree.{value_bytes}
 use Rattle.bib_spec.specs.Text.{Text}
 use Rattle.bib_persons.specs.Persons.{is_comma_byte, has_names}
 use Rattle.bib_answers.specs.Plain.{is_other}

@@ -1,4 +1,4 @@
-use Rattle.bib_answers.proofs.Words.{◌≡◌, ◌∙◌, ◌-◌, ◌≤◌, length, take, drop, fold, min, sym, ap, Text, Position, position_after, IsKnown}
+use Rattle.bib_answers.proofs.Words.{◌∙◌, ◌-◌, ◌≤◌, take, drop, fold, min, sym, ap, Text, Position, position_after, IsKnown}
 use Rattle.std.proofs.Common.{arith}
 use Rattle.bib_answers.specs.Walking.{stretch}
 use Rattle.bib_answers.proofs.PositionSteps.{position_later, position_end}

@@ -1,4 +1,4 @@
-use Rattle.bib_answers.proofs.Words.{◌++◌, ◌≡◌, min}
+use Rattle.bib_answers.proofs.Words.{◌++◌, min}
 use Rattle.std.proofs.Common.{arith, length-append}
 use Rattle.bib_answers.specs.Walking.{stretch}
 use Rattle.bib_answers.proofs.WalkSteps.{begun, longer, stretch_short}

@@ -1,6 +1,5 @@
 use Rattle.bib_answers.proofs.Words.{◌-◌, length, ap}
 use Rattle.std.proofs.Common.{arith}
-use Rattle.bib_answers.specs.Walking.{clip}
 use Rattle.bib_answers.proofs.WalkSteps.{small_numbers, clip_short}
 use Rattle.bib_answers.proofs.walking.past_chunk.Goals as goal
 

@@ -5,7 +5,7 @@ use Rattle.clap.specs.Words.{Row, Text, HasKind, is_simple, is_simple_and_free, 
 use Rattle.bib_command.specs.CommandLine.{given}
 use Rattle.bib_command.specs.Usage as spec
 use Rattle.bib_command.proofs.Subcommands.{met}
-use Rattle.bib_command.proofs.Errors.{bibkeep_is_simple, usage_of_memory, usage_for, keyless_usage}
+use Rattle.bib_command.proofs.Errors.{bibkeep_is_simple, usage_of_memory, usage_for, matched_usage}
 use Rattle.bib_command.proofs.parsing.parse_request.Goals as goal
 
 pub returns-then-is_known-clause-ok : goal.returns-then-is_known-clause-ok
@@ -16,6 +16,7 @@ returns-then-is_known-clause-ok c =
       name = c.in-Some.name.now;
       rows = rows_of (found_of c.in-Some.inner.now);
       named = sym (matches.1 ∙ ap (λ a. subcommand_of a (map string_bytes c.args.words.now)) app_is) ∙ met _ _ _ _ _ c.in-Some.ensures.name c.in-Some.ensures.rows;
+      together = sym c.if-is_in_conflict.ensures;
       command = c.in-Ok-command_of.ensures;
     }
 
@@ -42,11 +43,12 @@ returns-in-Ok-command_of-clause-err c =
         name = c.in-Some.name.now;
         rows = rows_of (found_of c.in-Some.inner.now);
         named = sym (matches.1 ∙ ap (λ a. subcommand_of a (map string_bytes c.args.words.now)) app_is) ∙ met _ _ _ _ _ c.in-Some.ensures.name c.in-Some.ensures.rows;
+        together = sym c.if-is_in_conflict.ensures;
         command = c.in-Ok-command_of.ensures;
       };
       unknown = λ known. false≢true (c.if-is_known.ensures.1 known);
     } in
-    keyless_usage _ _ lack c.without_keys.ensures
+    matched_usage _ _ (spec.keyless lack) c.without_keys.ensures
 
 pub returns-in-Ok-command_of-clause-taken : goal.returns-in-Ok-command_of-clause-taken
 returns-in-Ok-command_of-clause-taken c =
@@ -58,11 +60,36 @@ returns-in-Ok-command_of-clause-taken c =
         name = c.in-Some.name.now;
         rows = rows_of (found_of c.in-Some.inner.now);
         named = sym (matches.1 ∙ ap (λ a. subcommand_of a (map string_bytes c.args.words.now)) app_is) ∙ met _ _ _ _ _ c.in-Some.ensures.name c.in-Some.ensures.rows;
+        together = sym c.if-is_in_conflict.ensures;
         command = c.in-Ok-command_of.ensures;
       };
       unknown = λ known. false≢true (c.if-is_known.ensures.1 known);
     } in
-    λ t. inl lack
+    λ t. inl (spec.keyless lack)
+
+pub returns-then-is_in_conflict-clause-err : goal.returns-then-is_in_conflict-clause-err
+returns-then-is_in_conflict-clause-err c =
+    let app_is = c.in-Ok.ensures.app in
+    let matches = c.in-Ok-try_get_matches_from.ensures.matches (ap is_simple app_is) in
+    let conflict : spec.AreInConflict (map string_bytes c.args.words.now) = record {
+      name = c.in-Some.name.now;
+      rows = rows_of (found_of c.in-Some.inner.now);
+      named = sym (matches.1 ∙ ap (λ a. subcommand_of a (map string_bytes c.args.words.now)) app_is) ∙ met _ _ _ _ _ c.in-Some.ensures.name c.in-Some.ensures.rows;
+      conflict = sym c.if-is_in_conflict.ensures;
+    } in
+    matched_usage _ _ (spec.in_conflict conflict) c.in_conflict.ensures
+
+pub returns-then-is_in_conflict-clause-taken : goal.returns-then-is_in_conflict-clause-taken
+returns-then-is_in_conflict-clause-taken c =
+    let app_is = c.in-Ok.ensures.app in
+    let matches = c.in-Ok-try_get_matches_from.ensures.matches (ap is_simple app_is) in
+    let conflict : spec.AreInConflict (map string_bytes c.args.words.now) = record {
+      name = c.in-Some.name.now;
+      rows = rows_of (found_of c.in-Some.inner.now);
+      named = sym (matches.1 ∙ ap (λ a. subcommand_of a (map string_bytes c.args.words.now)) app_is) ∙ met _ _ _ _ _ c.in-Some.ensures.name c.in-Some.ensures.rows;
+      conflict = sym c.if-is_in_conflict.ensures;
+    } in
+    λ t. inl (spec.in_conflict conflict)
 
 pub returns-clause-err : goal.returns-clause-err
 returns-clause-err c =

@@ -1,4 +1,4 @@
-use Rattle.bib_edit.proofs.Words.{◌≡◌, ℕ, ◌+◌, [], Item, length, length-append, sym, ◌∙◌, ap, ap₂, arith, slice_get-within, item-ends, option_map_or, tree_bytes}
+use Rattle.bib_edit.proofs.Words.{◌≡◌, ◌+◌, [], Item, length, length-append, ◌∙◌, ap, ap₂, arith, slice_get-within, item-ends, option_map_or, tree_bytes}
 use Rattle.bib_edit.proofs.define_macro.body_end.Goals as goal
 
 pub overflow_add-result : goal.overflow_add-result

@@ -1,9 +1,9 @@
-use Rattle.bib_edit.proofs.Words.{◌≡◌, ◌∷◌, [], sym, ◌∙◌, ap, subst, arith, both_ways, List, Piece, ArePiecesOf, IsAllowedEdit, IsRefusal}
+use Rattle.bib_edit.proofs.Words.{◌≡◌, ℕ, ◌∷◌, [], sym, ◌∙◌, ap, subst, arith, both_ways, List, Piece, ArePiecesOf, IsAllowedEdit, IsRefusal}
 use Rattle.bib_data.specs.declared.edit.Edit.TheVariants.{DefineMacro}
-use Rattle.bib_edit.specs.MacroValues.{MakeOpenFile, IsLengthFault}
+use Rattle.bib_edit.specs.MacroValues.{defining_piece, MakeOpenFile, IsLengthFault}
 use Rattle.bib_edit.proofs.Results.{if_ok-as, on_ok-as, if_err-as}
 use Rattle.bib_edit.proofs.TabledDefinitions.{tabled-count}
-use Rattle.bib_edit.proofs.DefinedMacro.{refused-value, refused-defined, pieces-define_macro, fit-define_macro, goes-define_macro, refused-lengths, allowed-define_macro}
+use Rattle.bib_edit.proofs.DefinedMacro.{refused-value, refused-defined, pieces-define_macro, fit-define_macro, goes-define_macro, opens-define_macro, refused-lengths, allowed-define_macro}
 use Rattle.bib_edit.proofs.define_macro.define_macro.Goals as goal
 
 pub returns-then-not-branch-clause-refused : goal.returns-then-not-branch-clause-refused
@@ -25,7 +25,7 @@ unless_too_long-requires-clause-fit g c =
     let few = c.if-definition_count-gt0.false in
     let count = c.definition_count.ensures db reads in
     let same = tabled-count c.args.name.now db in omega (arith, few, count, same))
-    c.in_ok-pieces.pieces (λ db reads. c.in_ok-pieces.ensures.pieces ∙ ap (λ (p : Piece). p ∷ []) (c.in_ok-piece.ensures.piece db reads)) c.opens.ensures
+    c.in_ok-pieces.pieces (λ db reads. c.in_ok-pieces.ensures.pieces ∙ ap (λ (p : Piece). p ∷ []) (c.in_ok-piece.ensures.piece db reads ∙ ap (λ (k : ℕ). defining_piece db k c.args.name.now c.args.value.now) (c.definitions_end-end.ensures.end db reads))) c.opens.ensures
 
 pub unless_too_long-requires-clause-goes : goal.unless_too_long-requires-clause-goes
 unless_too_long-requires-clause-goes g c =
@@ -34,7 +34,17 @@ unless_too_long-requires-clause-goes g c =
     let few = c.if-definition_count-gt0.false in
     let count = c.definition_count.ensures db reads in
     let same = tabled-count c.args.name.now db in omega (arith, few, count, same))
-    c.in_ok-pieces.pieces (λ db reads. c.in_ok-pieces.ensures.pieces ∙ ap (λ (p : Piece). p ∷ []) (c.in_ok-piece.ensures.piece db reads)) c.opens.ensures
+    c.in_ok-pieces.pieces (λ db reads. c.in_ok-pieces.ensures.pieces ∙ ap (λ (p : Piece). p ∷ []) (c.in_ok-piece.ensures.piece db reads ∙ ap (λ (k : ℕ). defining_piece db k c.args.name.now c.args.value.now) (c.definitions_end-end.ensures.end db reads))) c.opens.ensures
+
+pub unless_too_long-requires-clause-short : goal.unless_too_long-requires-clause-short
+unless_too_long-requires-clause-short g c is =
+    opens-define_macro c.args.db.now c.args.name.now c.args.value.now (sym c.is_name.ensures ∙ c.if-not-is_name.false) (c.in_ok-is_value.ensures.0 c.if-not-branch.false)
+    (λ db reads.
+    let few = c.if-definition_count-gt0.false in
+    let count = c.definition_count.ensures db reads in
+    let same = tabled-count c.args.name.now db in omega (arith, few, count, same))
+    c.in_ok-pieces.pieces (λ db reads. c.in_ok-pieces.ensures.pieces ∙ ap (λ (p : Piece). p ∷ []) (c.in_ok-piece.ensures.piece db reads ∙ ap (λ (k : ℕ). defining_piece db k c.args.name.now c.args.value.now) (c.definitions_end-end.ensures.end db reads)))
+    c.opens.ensures c.definitions_end-end.result c.definitions_end-end.ensures.end (c.in_ok-short.ensures.short is)
 
 pub returns-clause-pieces : goal.returns-clause-pieces
 returns-clause-pieces g c =
@@ -45,7 +55,7 @@ returns-clause-pieces g c =
     let few = c.if-definition_count-gt0.false in
     let count = c.definition_count.ensures db reads in
     let same = tabled-count c.args.name.now db in omega (arith, few, count, same))
-    c.in_ok-pieces.pieces (λ db reads. c.in_ok-pieces.ensures.pieces ∙ ap (λ (p : Piece). p ∷ []) (c.in_ok-piece.ensures.piece db reads))))
+    c.in_ok-pieces.pieces (λ db reads. c.in_ok-pieces.ensures.pieces ∙ ap (λ (p : Piece). p ∷ []) (c.in_ok-piece.ensures.piece db reads ∙ ap (λ (k : ℕ). defining_piece db k c.args.name.now c.args.value.now) (c.definitions_end-end.ensures.end db reads)))))
     c.unless_too_long.result c.unless_too_long.ensures.same
 
 pub returns-clause-allowed : goal.returns-clause-allowed
@@ -56,7 +66,7 @@ returns-clause-allowed g c =
     let few = c.if-definition_count-gt0.false in
     let count = c.definition_count.ensures db reads in
     let same = tabled-count c.args.name.now db in omega (arith, few, count, same))
-    c.in_ok-pieces.pieces (λ db reads. c.in_ok-pieces.ensures.pieces ∙ ap (λ (p : Piece). p ∷ []) (c.in_ok-piece.ensures.piece db reads)))
+    c.in_ok-pieces.pieces (λ db reads. c.in_ok-pieces.ensures.pieces ∙ ap (λ (p : Piece). p ∷ []) (c.in_ok-piece.ensures.piece db reads ∙ ap (λ (k : ℕ). defining_piece db k c.args.name.now c.args.value.now) (c.definitions_end-end.ensures.end db reads))))
     c.unless_too_long.result c.unless_too_long.ensures.opens
 
 pub returns-clause-refused : goal.returns-clause-refused
@@ -67,5 +77,5 @@ returns-clause-refused g c =
     let few = c.if-definition_count-gt0.false in
     let count = c.definition_count.ensures db reads in
     let same = tabled-count c.args.name.now db in omega (arith, few, count, same))
-    c.in_ok-pieces.pieces (λ db reads. c.in_ok-pieces.ensures.pieces ∙ ap (λ (p : Piece). p ∷ []) (c.in_ok-piece.ensures.piece db reads)))
+    c.in_ok-pieces.pieces (λ db reads. c.in_ok-pieces.ensures.pieces ∙ ap (λ (p : Piece). p ∷ []) (c.in_ok-piece.ensures.piece db reads ∙ ap (λ (k : ℕ). defining_piece db k c.args.name.now c.args.value.now) (c.definitions_end-end.ensures.end db reads))))
     c.unless_too_long.result c.unless_too_long.ensures.refused

@@ -1,8 +1,8 @@
-use Rattle.bib_edit.proofs.Words.{◌≡◌, sym, ◌∙◌, subst, both_ways, err_from_is_err_and, List, Piece, ArePiecesOf, IsAllowedEdit, IsRefusal}
+use Rattle.bib_edit.proofs.Words.{◌≡◌, ◌+◌, arith, sym, ◌∙◌, subst, both_ways, err_from_is_err_and, List, Piece, ArePiecesOf, IsAllowedEdit, IsRefusal}
 use Rattle.bib_data.specs.declared.edit.Edit.TheVariants.{SetMacro}
 use Rattle.bib_edit.specs.MacroValues.{MakeOpenFile, IsLengthFault}
 use Rattle.bib_edit.proofs.Results.{if_ok-as, on_ok-as, if_err-as}
-use Rattle.bib_edit.proofs.MacroSettings.{refused-value, refused-definition, definition-number, pieces-set_macro, fit-set_macro, goes-set_macro, refused-lengths, allowed-set_macro}
+use Rattle.bib_edit.proofs.MacroSettings.{refused-value, refused-definition, definition-number, pieces-set_macro, fit-set_macro, goes-set_macro, opens-set_macro, definition-within, refused-lengths, allowed-set_macro}
 use Rattle.bib_edit.proofs.set_macro.set_macro.Goals as goal
 
 pub returns-then-not-branch-clause-refused : goal.returns-then-not-branch-clause-refused
@@ -27,6 +27,29 @@ pub unless_too_long-requires-clause-goes : goal.unless_too_long-requires-clause-
 unless_too_long-requires-clause-goes g c =
     goes-set_macro c.args.db.now c.args.name.now c.args.value.now (sym c.is_name.ensures ∙ c.if-not-is_name.false) (c.in_ok-is_value.ensures.0 c.if-not-branch.false) c.in_ok-n.n c.in_ok-n.ensures.lone
     c.in_ok-piece.piece c.in_ok-piece.ensures.piece c.in_ok-pieces.pieces c.in_ok-pieces.ensures.pieces c.opens.ensures
+
+pub overflow_add-n : goal.overflow_add-n
+overflow_add-n g c =
+    let db = c.opens.ensures.0 in
+    let reads = c.opens.ensures.1.reads in
+    let within = definition-within c.args.db.now c.args.name.now c.args.value.now (sym c.is_name.ensures ∙ c.if-not-is_name.false) (c.in_ok-is_value.ensures.0 c.if-not-branch.false) c.in_ok-n.n c.in_ok-n.ensures.lone db reads in
+    let count = c.item_count.ensures db reads in
+    let many = c.item_count.type_inv in omega (arith, within, count, many)
+
+pub stays_short-requires-clause-place : goal.stays_short-requires-clause-place
+stays_short-requires-clause-place g c db reads =
+    let within = definition-within c.args.db.now c.args.name.now c.args.value.now (sym c.is_name.ensures ∙ c.if-not-is_name.false) (c.in_ok-is_value.ensures.0 c.if-not-branch.false) c.in_ok-n.n c.in_ok-n.ensures.lone db reads in
+    omega (arith, within)
+
+pub stays_short-requires-clause-after : goal.stays_short-requires-clause-after
+stays_short-requires-clause-after g c db reads =
+    let within = definition-within c.args.db.now c.args.name.now c.args.value.now (sym c.is_name.ensures ∙ c.if-not-is_name.false) (c.in_ok-is_value.ensures.0 c.if-not-branch.false) c.in_ok-n.n c.in_ok-n.ensures.lone db reads in
+    omega (arith, within)
+
+pub unless_too_long-requires-clause-short : goal.unless_too_long-requires-clause-short
+unless_too_long-requires-clause-short g c is =
+    opens-set_macro c.args.db.now c.args.name.now c.args.value.now (sym c.is_name.ensures ∙ c.if-not-is_name.false) (c.in_ok-is_value.ensures.0 c.if-not-branch.false) c.in_ok-n.n c.in_ok-n.ensures.lone
+    c.in_ok-piece.piece c.in_ok-piece.ensures.piece c.in_ok-pieces.pieces c.in_ok-pieces.ensures.pieces c.opens.ensures (c.in_ok-n.n + 1) (omega arith) (c.in_ok-short.ensures.short is)
 
 pub returns-clause-pieces : goal.returns-clause-pieces
 returns-clause-pieces g c =

@@ -1,4 +1,4 @@
-use Rattle.bib_edit.proofs.Words.{◌≡◌, ◌+◌, ◌<◌, ◌≤◌, sym, ap, subst, both_ways, err_from_is_err_and, length, file_limit, List, Piece, olds_len, news_len, IsOpenable}
+use Rattle.bib_edit.proofs.Words.{◌+◌, ◌<◌, sym, subst, both_ways, err_from_is_err_and, length, file_limit, List, Piece, olds_len, news_len, IsOpenable}
 use Rattle.bib_spec.specs.Pieces.{applied}
 use Rattle.bib_edit.specs.MacroValues.{MakeShortFile, IsLengthFault, long_file, long_text, no_memory}
 use Rattle.bib_edit.proofs.LimitTests.{not_over}

@@ -1,10 +1,9 @@
-use Rattle.std.proofs.Common.{◌≡◌, ◌↔◌, take, subst}
+use Rattle.std.proofs.Common.{◌≡◌, ◌↔◌, subst}
 use Rattle.std.specs.Prelude.{IsTrue}
-use Rattle.std.specs.List.{flat_map}
 use Rattle.merge_spec.specs.Units.{units_of}
 use Rattle.bib_places.specs.PlacesSeen.{place_seen}
 use Rattle.bib_merge.specs.Bodies.{bodies_of, place_bodies}
-use Rattle.bib_merge.proofs.ItemsMet.{none-met, places-more, places-all}
+use Rattle.bib_merge.proofs.ItemsMet.{places-more, places-all}
 use Rattle.bib_merge.proofs.meeting.has_items.Goals as goal
 
 pub places-preserved : goal.places-preserved

@@ -1,6 +1,4 @@
-use Rattle.std.proofs.Common.{◌∙◌, Option, option_map, ap}
-use Rattle.std.specs.Option.{option_or}
-use Rattle.fault_pages.specs.Heads.{head_of, is_asked, faults_of_bytes, faults_of_limits, faults_of_questions, faults_of_edits, faults_of_journals, faults_of_inputs}
+use Rattle.fault_pages.specs.Heads.{is_asked, faults_of_bytes, faults_of_limits, faults_of_questions, faults_of_edits, faults_of_journals, faults_of_inputs}
 use Rattle.fault_pages.proofs.FaultGroups.{groups}
 use Rattle.fault_pages.proofs.asking.page_of.Goals as goal
 

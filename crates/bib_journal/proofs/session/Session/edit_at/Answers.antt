@@ -1,4 +1,4 @@
-use Rattle.bib_journal.proofs.Words.{subst, sym, OnOk, IsSound, IsAllowed, SessionState, IsOpenIn, SessionFault}
+use Rattle.bib_journal.proofs.Words.{subst, sym, IsSound, IsAllowed, SessionState, IsOpenIn, SessionFault}
 use Rattle.bib_edit.specs.Positions.{IsRefusalAt}
 use Rattle.bib_journal.proofs.Moves.{IsPlaced, placed, placed_leads, made_edit_at, refused_at, where_accepted}
 use Rattle.bib_journal.specs.Session.{RefusesEditAt}

@@ -1,0 +1,5 @@
+pub mod SameNames
+pub mod RenamedEntries
+pub mod NewKeys
+pub mod MacroLists
+pub mod OtherEntries

@@ -1,0 +1,2 @@
+pub mod RenamingLists
+pub mod OtherEntries

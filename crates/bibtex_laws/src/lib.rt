@@ -1,0 +1,11 @@
+//! What edits keep of the lists that BibTeX 0.99d gives to a style. There is no code here, only functions that do nothing and
+//! carry the laws.
+#![tactic(auto)]
+
+mod other_entries;
+mod renaming;
+
+pub use other_entries::an_entry_that_nothing_names_keeps_lists;
+pub use renaming::{
+    macro_edits_keep_lists, regenerating_keys_keeps_lists, renaming_a_key_keeps_lists,
+};

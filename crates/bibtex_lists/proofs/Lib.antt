@@ -1,0 +1,2 @@
+pub mod EntryKeys
+pub mod Inherited

@@ -1,0 +1,4 @@
+pub mod BareKeys
+pub mod SpacedRecords
+pub mod RisTexts
+pub mod RisAnswers

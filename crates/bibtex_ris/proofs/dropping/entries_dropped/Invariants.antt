@@ -1,0 +1,10 @@
+use Rattle.std.proofs.Common.{◌≡◌, take}
+use Rattle.std.specs.List.{flat_map}
+use Rattle.bib_spec.specs.Records.{entries_of}
+use Rattle.bib_store.specs.Readings.{OfReading}
+use Rattle.bib_ris.specs.Dropped.{dropped_lines}
+use Rattle.bibtex_lists.specs.Records.{record_as_listed}
+use Rattle.bibtex_ris.proofs.dropping.entries_dropped.Given as goal
+
+abbrev pub invariant-entries : goal.invariant-entries
+invariant-entries l = OfReading l.db (λ r. l.text.items ≡ flat_map (λ e. dropped_lines (record_as_listed (entries_of r) e)) (take l.entry-index l.list))
