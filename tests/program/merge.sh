@@ -64,6 +64,9 @@ merges "$one" "$(a '{x}' 2)" '@misc{a,\n  t = 1\n}\n' '@misc{a,\n  t = {x}\n}\n'
 merges "$one" '@misc{a,\n  t = 1\n}\n' "$(a '{x}' 2)" '@misc{a,\n  t = {x}\n}\n'
 # Type and key of an entry are merged too.
 merges '@misc{a, t = 1}\n' '@misc{a, t = 2}\n' '@Book{A, t = 1}\n' '@Book{A, t = 2}\n'
+# An entry that cannot be merged so, since a field is there twice, stays as it is if they changed only the case of its key.
+merges '@misc{a, t = 1}\n' '@misc{a, t = 1, t = 2}\n' '@misc{A, t = 1}\n' '@misc{a, t = 1, t = 2}\n'
+merges '@misc{a, t = 1, t = 1}\n' '@misc{a, t = 2}\n' '@misc{A, t = 2}\n' '@misc{a, t = 2}\n'
 
 # Units that all have one name meet in their order, however many there are.
 many=$(awk 'BEGIN { while (n++ < 2000) printf "@misc{a}\\n" }')

@@ -8,7 +8,9 @@ use Rattle.bib_renames.specs.declared.following.Followed.{Followed}
 use Rattle.bib_renames.specs.Renamed.{AreKeyConflicts, IsFollowed}
 use Rattle.bib_uses.specs.declared.losing.LostUse.{LostUse}
 use Rattle.bib_renames.proofs.Renamings.{stays}
-use Rattle.bib_merge.specs.Merges.{label_given, IsMergeOfThree, IsMergeOfFiles}
+use Rattle.bib_merge.specs.declared.fault.MergeFault.{MergeFault}
+use Rattle.bib_merge.specs.Merges.{label_given, IsMergeOfThree, IsMergeOfFiles, RefusesMergeOfThree, RefusesMergeOfFiles, IsOrMemory}
+use Rattle.bib_merge.proofs.RefusedTexts.{weaker}
 
 -- the same files
 pub of_texts : (given : List Label) (b o t base ours theirs text : Text) (conflicts : List Conflict) (lost : List Text) (uses : List LostUse) → b ≡ base → o ≡ ours → t ≡ theirs → IsMergeOfThree given b o t text conflicts lost uses → IsMergeOfThree given base ours theirs text conflicts lost uses
@@ -64,3 +66,56 @@ told_again base ours theirs text was keys given conflicts found lost gone uses l
     (subst (λ (ls : List Text). IsMergeOfThree [] base ours theirs was found ls uses) (sym same_lost)
     (subst (λ (us : List LostUse). IsMergeOfThree [] base ours theirs was found gone us) (sym same_uses)
     (subst (λ (gs : List Label). IsMergeOfThree gs base ours theirs was found gone left) none merge)))))
+
+-- ---- why there is no merge
+
+-- of the same files
+pub refused_texts : (labels given : List Label) (b o t base ours theirs : Text) → labels ≡ given → b ≡ base → o ≡ ours → t ≡ theirs → (fault : MergeFault)
+    → IsOrMemory (RefusesMergeOfThree labels b o t) fault → IsOrMemory (RefusesMergeOfThree given base ours theirs) fault
+refused_texts labels given b o t base ours theirs is is_b is_o is_t fault why =
+    subst (λ (f : Text). IsOrMemory (RefusesMergeOfThree given f ours theirs) fault) is_b
+    (subst (λ (f : Text). IsOrMemory (RefusesMergeOfThree given b f theirs) fault) is_o
+    (subst (λ (f : Text). IsOrMemory (RefusesMergeOfThree given b o f) fault) is_t (subst (λ (ls : List Label). IsOrMemory (RefusesMergeOfThree ls b o t) fault) is why)))
+
+-- the files that the sides have, if those in which names are followed have these bytes
+pub follows : (base ours theirs b o t : Text) (files : Followed) → base ≡ b → ours ≡ o → theirs ≡ t → IsFollowed b o t files → IsFollowed base ours theirs files
+follows base ours theirs b o t files is_b is_o is_t is =
+    subst (λ (f : Text). IsFollowed f ours theirs files) (sym is_b)
+    (subst (λ (f : Text). IsFollowed b f theirs files) (sym is_o) (subst (λ (f : Text). IsFollowed b o f files) (sym is_t) is))
+
+-- of the files in which names are followed
+pub refused_followed : (base ours theirs : Text) (files : Followed) → IsFollowed base ours theirs files → (fault : MergeFault)
+    → IsOrMemory (RefusesMergeOfThree (map label_given files.given.items) files.base files.ours files.theirs) fault → IsOrMemory (RefusesMergeOfFiles base ours theirs) fault
+refused_followed base ours theirs files is fault why =
+    weaker _ _
+    (λ other refused. record {
+      base_file = files.base;
+      ours_file = files.ours;
+      theirs_file = files.theirs;
+      names = is.names;
+      given = files.given.items;
+      named = is.given;
+      refused = refused;
+    })
+    fault why
+
+-- of the files as they are, if there is no name to follow
+pub refused_unfollowed : (base ours theirs : Text) (given : List Label) → given ≡ [] → (fault : MergeFault) → IsOrMemory (RefusesMergeOfThree given base ours theirs) fault → IsOrMemory (RefusesMergeOfFiles base ours theirs) fault
+refused_unfollowed base ours theirs given none fault why =
+    weaker _ _
+    (λ other refused. record {
+      base_file = base;
+      ours_file = ours;
+      theirs_file = theirs;
+      names = record {
+        between = base;
+        ours_in_base = stays ours base base base refl;
+        theirs_in_base = stays theirs base base base refl;
+        theirs_in_ours = stays theirs base ours ours refl;
+        ours_in_theirs = stays ours base theirs theirs refl;
+      };
+      given = [];
+      named = λ rb reads_b ro reads_o rt reads_t. tt;
+      refused = subst (λ (ls : List Label). RefusesMergeOfThree ls base ours theirs other) none refused;
+    })
+    fault why

@@ -4,3 +4,4 @@ pub mod UnitItems
 pub mod ItemsMet
 pub mod UnchangedSides
 pub mod TakenFiles
+pub mod RefusedTexts

@@ -1,8 +1,9 @@
 -- What the text of a merge is, and why there is none.
-use Rattle.std.specs.Prelude.{◌≡◌, ◌≢◌, true, List, [], map}
+use Rattle.std.specs.Prelude.{ℕ, ◌≡◌, ◌≢◌, ◌<◌, true, List, [], length, map, Some}
+use Rattle.bib_spec.specs.Bytes.{file_limit}
 use Rattle.bib_spec.specs.Text.{Text, folded}
-use Rattle.bib_spec.specs.Reading.{Reading, bytes_of}
-use Rattle.bib_spec.specs.Texts.{Opens, IsOpenable}
+use Rattle.bib_spec.specs.Reading.{Reading, Reads, bytes_of}
+use Rattle.bib_spec.specs.Texts.{Opens, IsOpenable, too_long_at}
 use Rattle.bib_spec.specs.Records.{entries_of}
 use Rattle.bib_scan.specs.declared.fault.ReadFault.{ReadFault}
 use Rattle.bib_store.specs.Readings.{IsOpenFault}
@@ -98,16 +99,57 @@ pub data IsOpeningFault (which : File) (bytes : Text) : MergeFault → Type 0 wh
   unopened : (fault : ReadFault) → fault.kind ≢ 10 → IsOpenFault bytes fault.kind fault.place → IsOpeningFault which bytes (fault_in which fault)
   no_memory : IsOpeningFault which bytes Memory
 
--- why files that can be opened are not merged
-pub data IsMergedFault : MergeFault → Type 0 where
-  text_too_long : IsMergedFault TextTooLong
-  file_too_long : IsMergedFault FileTooLong
-  would_merge : IsMergedFault WouldMerge
-  no_memory : IsMergedFault Memory
+-- ---- why files that can be opened are not merged
+
+-- The text is no file that opens: it is too long; or it has no reading; or a raw text of it is too long.
+pub data IsUnopened (text : Text) : MergeFault → Type 0 where
+  too_long : file_limit < length text → IsUnopened text FileTooLong
+  no_file : ((rm : Reading) → ¬ Reads text rm) → IsUnopened text WouldMerge
+  raw_too_long : (rm : Reading) → Reads text rm → (place : ℕ) → too_long_at rm ≡ Some place → IsUnopened text TextTooLong
+
+-- The text is no file that opens; or it is one, and its items are not those that these places have, since texts of both sides were
+-- joined.
+pub data RefusesText (ours theirs : Reading) (places : List Place) (text : Text) : MergeFault → Type 0 where
+  unopened : (fault : MergeFault) → IsUnopened text fault → RefusesText ours theirs places text fault
+  other_items : (rm : Reading) → Reads text rm → merged_bodies (units_of ours) (units_of theirs) places ≢ bodies_of rm → RefusesText ours theirs places text WouldMerge
+
+-- Places are a merge of the three files, in which the sides gave units these labels, and their text is refused.
+pub record RefusesMerge (given : List Label) (base ours theirs : Reading) (fault : MergeFault) : Type 0 where
+  pub places : List Place
+  pub space : Text
+  pub merge : is_merge given (units_of base) (units_of ours) (units_of theirs) places ≡ true
+  pub text : Text
+  pub bytes : merged_bytes (units_of ours) (units_of theirs) space places ≡ text
+  pub refused : RefusesText ours theirs places text fault
+
+-- the same by the bytes of the three files, each of which can be opened
+pub record RefusesMergeOfThree (given : List Label) (base ours theirs : Text) (fault : MergeFault) : Type 0 where
+  pub rb : Reading
+  pub ro : Reading
+  pub rt : Reading
+  pub base_opens : Opens base rb
+  pub ours_opens : Opens ours ro
+  pub theirs_opens : Opens theirs rt
+  pub refused : RefusesMerge given rb ro rt fault
+
+-- the same of three files after renamings of entries and macros, by which each follows the names that the sides gave
+pub record RefusesMergeOfFiles (base ours theirs : Text) (fault : MergeFault) : Type 0 where
+  pub base_file : Text
+  pub ours_file : Text
+  pub theirs_file : Text
+  pub names : FollowNames base ours theirs base_file ours_file theirs_file
+  pub given : List GivenName
+  pub named : AreGiven base ours theirs given
+  pub refused : RefusesMergeOfThree (map label_given given) base_file ours_file theirs_file fault
+
+-- the fault has such a reason, or memory ran out
+pub data IsOrMemory (IsReason : MergeFault → Type 0) : MergeFault → Type 0 where
+  reason : (fault : MergeFault) → IsReason fault → IsOrMemory IsReason fault
+  no_memory : IsOrMemory IsReason Memory
 
 -- why three files that can be opened are not merged; if a side changed nothing, or both made the same, only memory may run out
 pub data IsThreeFault (base ours theirs : Text) : MergeFault → Type 0 where
-  changed : (fault : MergeFault) → AllDiffer base ours theirs → IsMergedFault fault → IsThreeFault base ours theirs fault
+  changed : (fault : MergeFault) → AllDiffer base ours theirs → RefusesMergeOfFiles base ours theirs fault → IsThreeFault base ours theirs fault
   no_memory : IsThreeFault base ours theirs Memory
 
 -- why there is no merge of three files: the first of them that cannot be opened is at fault, or all can be opened

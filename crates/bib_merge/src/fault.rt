@@ -27,7 +27,7 @@ pub enum MergeFault {
     /// The merged text is longer than 16,777,216 bytes.
     #[error("9 FileTooLong")]
     FileTooLong,
-    /// The merged text is no file, or has other items than its units.
+    /// The merged text is no file, or has other items than its units, since texts of both sides would be joined.
     #[error("40 WouldMerge")]
     WouldMerge,
 }

@@ -1,6 +1,6 @@
 //! The merge of two files that come from a common one, unit by unit. It knows units and places; it knows no edits. Whatever places
-//! it finds, it answers them only if they are a merge of the definitions: it promises the bytes of such a merge, which is a file
-//! that opens, and its conflicts, or why there is none.
+//! it finds, it takes them only if they are a merge of the definitions, or else those of a merge that needs no search. It promises the
+//! bytes of such a merge, which is a file that opens, and its conflicts, or why the bytes of one are no such file.
 #![tactic(auto)]
 
 mod fault;

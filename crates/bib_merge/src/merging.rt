@@ -1,8 +1,8 @@
 //! The merge of three files.
 
-ghost use Rattle.std.specs.Prelude.{◌≡◌, true, [], IfOk, IfErr, OnOk, map};
+ghost use Rattle.std.specs.Prelude.{◌≡◌, true, ℕ, List, [], IfOk, IfErr, OnOk, map};
 ghost use Rattle.bib_spec.specs.Texts.{IsOpenable};
-ghost use Rattle.bib_store.specs.Readings.{OfReading};
+ghost use Rattle.bib_store.specs.Readings.{OfReading, IsOpenFault};
 ghost use Rattle.bib_spec.specs.Reading.{Reading};
 ghost use Rattle.bib_places.specs.PlacesSeen.{IsSide, place_seen};
 ghost use Rattle.bib_spec.specs.Records.{entries_of};
@@ -14,7 +14,7 @@ ghost use Rattle.bib_uses.specs.Lost.{lost_uses};
 ghost use Rattle.bib_places.specs.OwnedLabels.{owned_seen};
 ghost use Rattle.bib_places.specs.ConflictsSeen.{conflict_seen};
 ghost use Rattle.bib_merge.specs.Bodies.{bodies_of, merged_bodies};
-ghost use Rattle.bib_merge.specs.Merges.{label_given, IsMergeOf, IsMergeOfThree, IsMergeOfFiles, LeavesTheOther, fault_in, IsOpeningFault, IsMergedFault, IsThreeFault, IsMergeFault};
+ghost use Rattle.bib_merge.specs.Merges.{label_given, IsMergeOf, IsMergeOfThree, IsMergeOfFiles, LeavesTheOther, fault_in, IsOpeningFault, IsUnopened, RefusesText, RefusesMerge, RefusesMergeOfThree, RefusesMergeOfFiles, IsOrMemory, IsThreeFault, IsMergeFault};
 
 use crate::fault::MergeFault;
 use crate::meeting::has_items;
@@ -28,6 +28,7 @@ use crate::unchanged::unchanged;
 use bib_parents::lost_keys;
 use bib_places::{
     Conflict, File, Mix, Outcome, OwnedLabel, Place, Side, conflicts_of, is_merge, merged_text,
+    plain_places,
 };
 use bib_renames::{Followed, GivenName, KeyConflict, Named, follow};
 use bib_scan::{ReadFault, Text, copied};
@@ -283,13 +284,29 @@ fn found_places<'a>(
 
 /// Why the merged text is not opened.
 fn merged_fault(fault: ReadFault) -> MergeFault
-    ensures { IsMergedFault result }
+    ensures { (text : List ℕ) → IsOpenFault text fault.kind fault.place → IsOrMemory (IsUnopened text) result }
 {
-    match fault.kind {
-        8 => MergeFault::TextTooLong,
-        9 => MergeFault::FileTooLong,
-        10 => MergeFault::Memory,
-        _ => MergeFault::WouldMerge,
+    if fault.kind == 8 {
+        return MergeFault::TextTooLong;
+    }
+    if fault.kind == 9 {
+        return MergeFault::FileTooLong;
+    }
+    if fault.kind == 10 {
+        return MergeFault::Memory;
+    }
+    MergeFault::WouldMerge
+}
+
+/// Opens the merged text.
+fn opened_text(alloc: Global, text: &[u8]) -> Result<Database<Paged>, MergeFault>
+    ensures opened { IfOk result (λ db. db ≡ text.now) }
+    ensures opens { OnOk result (IsOpenable text.now) }
+    ensures fault { IfErr result (IsOrMemory (IsUnopened text.now)) }
+{
+    match Database::open_bytes(alloc, text, Paged::new(alloc)) {
+        Ok(db) => Ok(db),
+        Err(fault) => Err(merged_fault(fault)),
     }
 }
 
@@ -301,7 +318,7 @@ fn merged_fault(fault: ReadFault) -> MergeFault
 /// macros, as `bib_renames` says. It opens the three files and the merged one, and takes time and memory in their lengths; with
 /// such names it also makes the edits, and opens the three files that they make. It is refused at the first file that cannot be
 /// opened; with 8 or 9 if the merged text would have too long a raw text or be too long itself; with 40 if it is no file or has
-/// other items; and with 10. (dialect)
+/// other items, since texts of both sides would be joined; and with 10. (dialect)
 pub fn merge(alloc: Global, base: &[u8], ours: &[u8], theirs: &[u8]) -> Result<Merged, MergeFault>
     ensures merged { IfOk result (λ merged. IsMergeOfFiles base.now ours.now theirs.now merged.text merged.keys.items (map conflict_seen merged.conflicts.items) merged.lost.items merged.uses.items) }
     ensures left { IfOk result (λ merged. LeavesTheOther base.now ours.now theirs.now merged.text (map conflict_seen merged.conflicts.items)) }
@@ -417,8 +434,11 @@ fn merge_changed(
     requires theirs { theirs.now ≡ t.now }
     ensures merged { IfOk result (λ merged. IsMergeOfFiles base.now ours.now theirs.now merged.text merged.keys.items (map conflict_seen merged.conflicts.items) merged.lost.items merged.uses.items) }
     ensures opens { IfOk result (λ merged. IsOpenable merged.text) }
-    ensures fault { IfErr result IsMergedFault }
+    ensures fault { IfErr result (IsOrMemory (RefusesMergeOfFiles base.now ours.now theirs.now)) }
 {
+    b.opens();
+    o.opens();
+    t.opens();
     let found = follow(alloc, b, o, t)?;
     match found {
         Some(files) => {
@@ -457,10 +477,13 @@ fn labels_given(alloc: Global, given: &[GivenName]) -> Result<Vec<OwnedLabel>, A
 
 /// The merge of three files in which names are followed.
 fn merge_followed(alloc: Global, files: Followed) -> Result<Merged, MergeFault>
+    requires base { IsOpenable files.base }
+    requires ours { IsOpenable files.ours }
+    requires theirs { IsOpenable files.theirs }
     ensures keys { IfOk result (λ merged. merged.keys.items ≡ files.keys.items) }
     ensures merged { IfOk result (λ merged. IsMergeOfThree (map label_given files.given.items) files.base files.ours files.theirs merged.text (map conflict_seen merged.conflicts.items) merged.lost.items merged.uses.items) }
     ensures opens { IfOk result (λ merged. IsOpenable merged.text) }
-    ensures fault { IfErr result IsMergedFault }
+    ensures fault { IfErr result (IsOrMemory (RefusesMergeOfThree (map label_given files.given.items) files.base files.ours files.theirs)) }
 {
     let keys = files.keys;
     let base = files.base.as_slice();
@@ -485,9 +508,12 @@ fn remerged(
     ours: &[u8],
     theirs: &[u8],
 ) -> Result<Told, MergeFault>
+    requires base { IsOpenable base.now }
+    requires ours { IsOpenable ours.now }
+    requires theirs { IsOpenable theirs.now }
     ensures told { IfOk result (λ told. IsMergeOfThree (map owned_seen given.now) base.now ours.now theirs.now told.text (map conflict_seen told.conflicts.items) told.lost.items told.uses.items) }
     ensures opens { IfOk result (λ told. IsOpenable told.text) }
-    ensures fault { IfErr result IsMergedFault }
+    ensures fault { IfErr result (IsOrMemory (RefusesMergeOfThree (map owned_seen given.now) base.now ours.now theirs.now)) }
 {
     let b = reopened(alloc, base)?;
     remerged_base(alloc, given, &b, base, ours, theirs)
@@ -502,10 +528,12 @@ fn remerged_base(
     ours: &[u8],
     theirs: &[u8],
 ) -> Result<Told, MergeFault>
-    requires { base.now ≡ b.now }
+    requires base { base.now ≡ b.now }
+    requires ours { IsOpenable ours.now }
+    requires theirs { IsOpenable theirs.now }
     ensures told { IfOk result (λ told. IsMergeOfThree (map owned_seen given.now) base.now ours.now theirs.now told.text (map conflict_seen told.conflicts.items) told.lost.items told.uses.items) }
     ensures opens { IfOk result (λ told. IsOpenable told.text) }
-    ensures fault { IfErr result IsMergedFault }
+    ensures fault { IfErr result (IsOrMemory (RefusesMergeOfThree (map owned_seen given.now) base.now ours.now theirs.now)) }
 {
     let o = reopened(alloc, ours)?;
     remerged_ours(alloc, given, b, base, &o, ours, theirs)
@@ -523,23 +551,23 @@ fn remerged_ours(
 ) -> Result<Told, MergeFault>
     requires base { base.now ≡ b.now }
     requires ours { ours.now ≡ o.now }
+    requires theirs { IsOpenable theirs.now }
     ensures told { IfOk result (λ told. IsMergeOfThree (map owned_seen given.now) base.now ours.now theirs.now told.text (map conflict_seen told.conflicts.items) told.lost.items told.uses.items) }
     ensures opens { IfOk result (λ told. IsOpenable told.text) }
-    ensures fault { IfErr result IsMergedFault }
+    ensures fault { IfErr result (IsOrMemory (RefusesMergeOfThree (map owned_seen given.now) base.now ours.now theirs.now)) }
 {
     let t = reopened(alloc, theirs)?;
     merge_open(alloc, given, b, base, o, ours, &t, theirs)
 }
 
-/// Opens a file that was made.
-fn reopened(alloc: Global, bytes: &[u8]) -> Result<Database<Paged>, MergeFault>
-    ensures opened { IfOk result (λ db. db ≡ bytes.now) }
-    ensures opens { OnOk result (IsOpenable bytes.now) }
-    ensures fault { IfErr result IsMergedFault }
+/// Opens a file that was made by edits, and so can be opened.
+fn reopened(alloc: Global, bytes: &[u8]) -> Result<Database<Paged>, AllocError>
+    requires { IsOpenable bytes.now }
+    ensures { IfOk result (λ db. db ≡ bytes.now) }
 {
     match Database::open_bytes(alloc, bytes, Paged::new(alloc)) {
         Ok(db) => Ok(db),
-        Err(fault) => Err(merged_fault(fault)),
+        Err(_) => Err(AllocError),
     }
 }
 
@@ -559,7 +587,7 @@ fn merge_open(
     requires theirs { theirs.now ≡ t.now }
     ensures told { IfOk result (λ told. IsMergeOfThree (map owned_seen given.now) base.now ours.now theirs.now told.text (map conflict_seen told.conflicts.items) told.lost.items told.uses.items) }
     ensures opens { IfOk result (λ told. IsOpenable told.text) }
-    ensures fault { IfErr result IsMergedFault }
+    ensures fault { IfErr result (IsOrMemory (RefusesMergeOfThree (map owned_seen given.now) base.now ours.now theirs.now)) }
 {
     b.opens();
     o.opens();
@@ -587,7 +615,7 @@ fn merge_sides(
     ensures lost { IfOk result (λ told. OfReading o.now (λ ro. OfReading t.now (λ rt. OfReading told.text (λ rm. told.lost.items ≡ lost_keys (entries_of ro) (entries_of rt) (entries_of rm))))) }
     ensures uses { IfOk result (λ told. OfReading o.now (λ ro. OfReading t.now (λ rt. OfReading told.text (λ rm. told.uses.items ≡ lost_uses ro rt rm)))) }
     ensures opens { IfOk result (λ told. IsOpenable told.text) }
-    ensures fault { IfErr result IsMergedFault }
+    ensures fault { IfErr result (IsOrMemory (λ fault. (rb ro rt : Reading) → IsSide rb b.now of_base.now.units.items → IsSide ro o.now of_ours.now.units.items → IsSide rt t.now of_theirs.now.units.items → RefusesMerge (map owned_seen given.now) rb ro rt fault)) }
 {
     let base_units = of_base.units.as_slice();
     let our_units = of_ours.units.as_slice();
@@ -614,7 +642,7 @@ fn merge_sides(
 }
 
 /// The places of a merge of three files, in which the sides gave units these labels, and in this list the entries that are merged field
-/// by field.
+/// by field: those that were found, if they are a merge, or else those of a merge that needs no search.
 fn merging_places<'a>(
     alloc: Global,
     given: &[OwnedLabel],
@@ -622,16 +650,16 @@ fn merging_places<'a>(
     base: &Side<'a, Paged>,
     ours: &Side<'a, Paged>,
     theirs: &Side<'a, Paged>,
-) -> Result<Vec<Place<'a>>, MergeFault>
-    ensures merge { IfOk result (λ places. (rb ro rt : Reading) → IsSide rb base.now.db.now base.now.units.now → IsSide ro ours.now.db.now ours.now.units.now → IsSide rt theirs.now.db.now theirs.now.units.now
+) -> Result<Vec<Place<'a>>, AllocError>
+    ensures { IfOk result (λ places. (rb ro rt : Reading) → IsSide rb base.now.db.now base.now.units.now → IsSide ro ours.now.db.now ours.now.units.now → IsSide rt theirs.now.db.now theirs.now.units.now
         → is_merge (map owned_seen given.now) (units_of rb) (units_of ro) (units_of rt) (map (place_seen (units_of ro) (units_of rt)) places.items) ≡ true) }
-    ensures fault { IfErr result IsMergedFault }
 {
     let places = found_places(alloc, given, mixes, base, ours, theirs)?;
-    if !is_merge(alloc, given, base, ours, theirs, places.as_slice())? {
-        return Err(MergeFault::WouldMerge);
+    if is_merge(alloc, given, base, ours, theirs, places.as_slice())? {
+        return Ok(places);
     }
-    Ok(places)
+    let plain = plain_places(alloc, given, base, ours, theirs)?;
+    Ok(plain)
 }
 
 /// The merge of these places with this text.
@@ -651,7 +679,7 @@ fn tell(
     ensures items { OnOk result (OfReading text (λ rm. (ro rt : Reading) → IsSide ro ours.now.db.now ours.now.units.now → IsSide rt theirs.now.db.now theirs.now.units.now
         → merged_bodies (units_of ro) (units_of rt) (map (place_seen (units_of ro) (units_of rt)) places.now) ≡ bodies_of rm)) }
     ensures opens { OnOk result (IsOpenable text) }
-    ensures fault { IfErr result IsMergedFault }
+    ensures fault { IfErr result (IsOrMemory (λ fault. (ro rt : Reading) → IsSide ro ours.now.db.now ours.now.units.now → IsSide rt theirs.now.db.now theirs.now.units.now → RefusesText ro rt (map (place_seen (units_of ro) (units_of rt)) places.now) text fault)) }
 {
     let conflicts = conflicts_of(
         alloc,
@@ -692,9 +720,9 @@ fn losses(
     ensures items { OnOk result (OfReading text.now (λ rm. (ro rt : Reading) → IsSide ro ours.now.db.now ours.now.units.now → IsSide rt theirs.now.db.now theirs.now.units.now
         → merged_bodies (units_of ro) (units_of rt) (map (place_seen (units_of ro) (units_of rt)) places.now) ≡ bodies_of rm)) }
     ensures opens { OnOk result (IsOpenable text.now) }
-    ensures fault { IfErr result IsMergedFault }
+    ensures fault { IfErr result (IsOrMemory (λ fault. (ro rt : Reading) → IsSide ro ours.now.db.now ours.now.units.now → IsSide rt theirs.now.db.now theirs.now.units.now → RefusesText ro rt (map (place_seen (units_of ro) (units_of rt)) places.now) text.now fault)) }
 {
-    let db = reopened(alloc, text)?;
+    let db = opened_text(alloc, text)?;
     let lost = losses_in(alloc, ours, theirs, places, &db)?;
     Ok(lost)
 }
@@ -711,8 +739,9 @@ fn losses_in(
     ensures uses { IfOk result (λ lost. OfReading ours.now.db.now (λ ro. OfReading theirs.now.db.now (λ rt. OfReading merged.now (λ rm. lost.uses.items ≡ lost_uses ro rt rm)))) }
     ensures items { OnOk result (OfReading merged.now (λ rm. (ro rt : Reading) → IsSide ro ours.now.db.now ours.now.units.now → IsSide rt theirs.now.db.now theirs.now.units.now
         → merged_bodies (units_of ro) (units_of rt) (map (place_seen (units_of ro) (units_of rt)) places.now) ≡ bodies_of rm)) }
-    ensures fault { IfErr result IsMergedFault }
+    ensures fault { IfErr result (IsOrMemory (λ fault. (ro rt : Reading) → IsSide ro ours.now.db.now ours.now.units.now → IsSide rt theirs.now.db.now theirs.now.units.now → RefusesText ro rt (map (place_seen (units_of ro) (units_of rt)) places.now) merged.now fault)) }
 {
+    merged.opens();
     if !has_items(alloc, merged, ours, theirs, places)? {
         return Err(MergeFault::WouldMerge);
     }

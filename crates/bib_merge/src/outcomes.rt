@@ -42,7 +42,24 @@ fn has_new_key(b: UnitView<'_>, o: UnitView<'_>, t: UnitView<'_>) -> bool {
     }
 }
 
-/// What becomes of a unit that both sides have, and the common file too.
+/// Whether ours may stay, as a whole: they left the unit, or say what we say.
+fn may_be_ours<L: ItemList>(
+    alloc: Global,
+    base: &Side<'_, L>,
+    b: UnitView<'_>,
+    ours: &Side<'_, L>,
+    o: UnitView<'_>,
+    theirs: &Side<'_, L>,
+    t: UnitView<'_>,
+) -> Result<bool, AllocError> {
+    if agree(alloc, base.db, b, theirs.db, t)? {
+        return Ok(true);
+    }
+    agree(alloc, ours.db, o, theirs.db, t)
+}
+
+/// What becomes of a unit that both sides have, and the common file too. A key that they spell in a new way is taken, if the entry can be
+/// merged field by field.
 fn of_three<L: ItemList>(
     alloc: Global,
     mixes: &mut Vec<Found>,
@@ -59,19 +76,16 @@ fn of_three<L: ItemList>(
     if o.bytes == b.bytes {
         return Ok(Becomes::Theirs);
     }
-    if !has_new_key(b, o, t) {
-        if agree(alloc, base.db, b, theirs.db, t)? {
-            return Ok(Becomes::Ours);
-        }
-        if agree(alloc, ours.db, o, theirs.db, t)? {
-            return Ok(Becomes::Ours);
-        }
+    let ours_may_stay = may_be_ours(alloc, base, b, ours, o, theirs, t)?;
+    if ours_may_stay && !has_new_key(b, o, t) {
+        return Ok(Becomes::Ours);
     }
     match mix(alloc, base, b, ours, o, theirs, t)? {
         Some(found) => {
             mixes.push(found)?;
             Ok(Becomes::Mixed(mixes.len().saturating_sub(1)))
         }
+        None if ours_may_stay => Ok(Becomes::Ours),
         None => Ok(Becomes::Both),
     }
 }

@@ -16,7 +16,7 @@ use Rattle.bib_places.proofs.Lists.{all-map}
 use Rattle.bib_places.proofs.Counting.{count-cons, count-codes}
 
 -- a label is the same as itself
-same-self : (l : Label) → same_label l l ≡ true
+pub same-self : (l : Label) → same_label l l ≡ true
 same-self (EntryLabel a) = true-eq a a refl
 same-self (MacroLabel a) = true-eq a a refl
 same-self (BytesLabel a) = true-eq a a refl

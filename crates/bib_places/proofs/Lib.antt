@@ -4,5 +4,7 @@ pub mod Marks
 pub mod Counting
 pub mod LeftOnce
 pub mod Lists
+pub mod PlacesPut
 pub mod Joining
 pub mod ConflictsMet
+pub mod PlainPlaces

@@ -78,7 +78,7 @@ module _ {P : Type 0} (number : P → Option ℕ) (places : List P) (count k : �
           true_eq a = eq-eqb a a refl
 
 -- a test that holds of each number of a range
-range-all : (test : ℕ → Bool) (from count : ℕ) → ((n : ℕ) → n < from + count → test n ≡ true) → list_all test (range_with_len from count) ≡ true
+pub range-all : (test : ℕ → Bool) (from count : ℕ) → ((n : ℕ) → n < from + count → test n ≡ true) → list_all test (range_with_len from count) ≡ true
 range-all test from zero holds = refl
 range-all test from (suc count) holds = and_from _ _ (holds from (first from count)) (range-all test (from + 1) count (λ n lt. holds n (shift n from count lt)))
   where

@@ -3,3 +3,4 @@ pub mod OwnedLabels
 pub mod ConflictsSeen
 pub mod LabelCodes
 pub mod Tallies
+pub mod NumbersLeft

@@ -32,7 +32,7 @@ pub(crate) struct Met<'a> {
 }
 
 /// Whether ours may stay.
-fn may_be_ours<L: ItemList>(
+pub(crate) fn may_be_ours<L: ItemList>(
     alloc: Global,
     base: &Database<L>,
     ours: &Database<L>,
@@ -53,14 +53,14 @@ fn may_be_ours<L: ItemList>(
 }
 
 /// Whether theirs may be taken.
-fn may_be_theirs(met: Met<'_>) -> bool
+pub(crate) fn may_be_theirs(met: Met<'_>) -> bool
     ensures { (rb ro rt : Reading) (b o t : Option Unit) → MaySee rb met.entry.base b → MaySee ro met.entry.ours o → MaySee rt met.entry.theirs t → result ≡ may_become b o t TheirsBecomes }
 {
     met.theirs.is_some() && is_left(met.base, met.ours)
 }
 
 /// Whether the unit may go.
-fn may_go<L: ItemList>(
+pub(crate) fn may_go<L: ItemList>(
     alloc: Global,
     base: &Database<L>,
     ours: &Database<L>,
@@ -200,7 +200,7 @@ fn have_one_label(met: Met<'_>) -> bool
 }
 
 /// Whether the text is white space.
-fn is_white(text: &[u8]) -> bool
+pub(crate) fn is_white(text: &[u8]) -> bool
     ensures { result ≡ list_all is_space text.now }
 {
     text.iter().all(|byte| is_space(*byte))

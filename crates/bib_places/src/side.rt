@@ -18,7 +18,7 @@ pub struct Side<'a, L: ItemList> {
 }
 
 /// The unit with this number, if there are so many.
-fn unit_with<'a>(units: &[UnitView<'a>], n: usize) -> Option<UnitView<'a>>
+pub(crate) fn unit_with<'a>(units: &[UnitView<'a>], n: usize) -> Option<UnitView<'a>>
     ensures { result ≡ slice_get units.now n }
 {
     match units.get(n) {

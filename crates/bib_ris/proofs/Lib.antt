@@ -6,3 +6,4 @@ pub mod GivenKeys
 pub mod KeyedRecords
 pub mod DraftSteps
 pub mod SkippedImports
+pub mod LookedUp

@@ -14,6 +14,7 @@ ghost use Rattle.bib_ris.specs.declared.fault.ImportFault.TheVariants.{SkippedLi
 
 use crate::drafts::{Drafts, usable_keys, with_keys};
 use crate::fault::ImportFault;
+use crate::free_key::look_up_keys;
 use bib_data::NewEntry;
 use bib_edit::free_keys;
 use bib_scan::{Seq, Text};
@@ -29,7 +30,8 @@ pub struct Additions {
 }
 
 /// The keys that are made for drafts: for each base in turn a free key that is no key of another draft. If no key is to
-/// be made, the keys of the drafts and of the file are not read.
+/// be made, the keys of the drafts and of the file are not read; if one is, the file is asked for its candidates, and its keys are
+/// not listed unless many are taken.
 fn keys_of<L: ItemList>(
     alloc: Global,
     db: &Database<L>,
@@ -44,6 +46,9 @@ fn keys_of<L: ItemList>(
         return Ok(Seq::empty(alloc));
     }
     let ids = usable_keys(alloc, entries)?;
+    if let Some(keys) = look_up_keys(alloc, db, bases, ids.as_slice())? {
+        return Ok(keys);
+    }
     match free_keys(alloc, db, bases, ids.as_slice()) {
         Ok(keys) => Ok(keys),
         Err(_) => Err(ImportFault::Memory),

@@ -8,6 +8,7 @@ mod drafts;
 mod dropping;
 mod exporting;
 mod fault;
+mod free_key;
 mod importing;
 mod plain_records;
 

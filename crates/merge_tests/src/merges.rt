@@ -629,6 +629,32 @@ fn each_field_in_conflict_is_told(rt: HostRuntime) -> Result<(), Fail> {
 }
 
 #[test]
+fn a_key_in_another_case_is_no_conflict_beside_a_field_that_is_there_twice(
+    rt: HostRuntime,
+) -> Result<(), Fail> {
+    let alloc = rt.alloc();
+    assert!(rt;
+        merges(
+            alloc,
+            b"@misc{a, t = 1}\n",
+            b"@misc{a, t = 1, t = 2}\n",
+            b"@misc{A, t = 1}\n",
+            b"@misc{a, t = 1, t = 2}\n"
+        )
+    );
+    assert!(rt;
+        merges(
+            alloc,
+            b"@misc{a, t = 1, t = 1}\n",
+            b"@misc{a, t = 2}\n",
+            b"@misc{A, t = 2}\n",
+            b"@misc{a, t = 2}\n"
+        )
+    );
+    Ok(())
+}
+
+#[test]
 fn values_of_macros_say_what_they_stand_for(rt: HostRuntime) -> Result<(), Fail> {
     let alloc = rt.alloc();
     assert!(rt;

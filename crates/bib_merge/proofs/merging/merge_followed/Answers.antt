@@ -1,11 +1,21 @@
-use Rattle.std.proofs.Common.{List, map, ◌∙◌, ap, subst}
+use Rattle.std.proofs.Common.{List, map, sym, ◌∙◌, ap, subst}
 use Rattle.std.proofs.lemmas.Result.{err_from_is_err_and}
+use Rattle.bib_spec.specs.Texts.{IsOpenable}
 use Rattle.merge_spec.specs.Units.{Label}
 use Rattle.bib_places.specs.OwnedLabels.{owned_seen}
 use Rattle.bib_places.specs.ConflictsSeen.{conflict_seen}
-use Rattle.bib_merge.specs.Merges.{label_given, IsMergeOfThree, IsMergedFault}
-use Rattle.bib_merge.proofs.FollowedFiles.{of_texts}
+use Rattle.bib_merge.specs.Merges.{label_given, IsMergeOfThree, IsOrMemory}
+use Rattle.bib_merge.proofs.FollowedFiles.{of_texts, refused_texts}
 use Rattle.bib_merge.proofs.merging.merge_followed.Goals as goal
+
+pub remerged-requires-clause-base : goal.remerged-requires-clause-base
+remerged-requires-clause-base c = subst IsOpenable (sym c.as_slice-base.ensures) c.requires.base
+
+pub remerged-requires-clause-ours : goal.remerged-requires-clause-ours
+remerged-requires-clause-ours c = subst IsOpenable (sym c.as_slice-ours.ensures) c.requires.ours
+
+pub remerged-requires-clause-theirs : goal.remerged-requires-clause-theirs
+remerged-requires-clause-theirs c = subst IsOpenable (sym c.as_slice-theirs.ensures) c.requires.theirs
 
 pub returns-clause-merged : goal.returns-clause-merged
 returns-clause-merged c =
@@ -17,9 +27,10 @@ returns-clause-merged c =
 pub returns-in_err-given-clause-fault : goal.returns-in_err-given-clause-fault
 returns-in_err-given-clause-fault c =
     let p = err_from_is_err_and c.from_residual.result c.from_residual.ensures.1 in
-    rw (p.1, p.2) IsMergedFault.no_memory
+    rw (p.1, p.2) IsOrMemory.no_memory
 
 pub returns-in_err-told-clause-fault : goal.returns-in_err-told-clause-fault
 returns-in_err-told-clause-fault c =
     let p = err_from_is_err_and c.from_residual-in_err-told.result c.from_residual-in_err-told.ensures.1 in
-    rw (p.1, p.2) c.in_err-told.ensures.fault
+    let labels = ap (map owned_seen) c.as_slice-2.ensures.value ∙ c.in_ok-given.ensures ∙ ap (map label_given) c.as_slice.ensures.value in
+    rw (p.1, p.2) (refused_texts _ _ _ _ _ _ _ _ labels c.as_slice-base.ensures c.as_slice-ours.ensures c.as_slice-theirs.ensures _ c.in_err-told.ensures.fault)

@@ -5,6 +5,7 @@ use Rattle.bib_places.specs.ConflictsSeen.{conflict_seen}
 use Rattle.bib_merge.specs.declared.told.Told.{Told}
 use Rattle.bib_merge.specs.Merges.{IsMergeOfThree, AllDiffer, IsThreeFault}
 use Rattle.bib_merge.proofs.FollowedFiles.{told_again}
+use Rattle.bib_merge.proofs.RefusedTexts.{three_fault}
 use Rattle.bib_merge.proofs.merging.merge_three.Goals as goal
 
 pub returns-in-Some-clause-merged : goal.returns-in-Some-clause-merged
@@ -22,4 +23,4 @@ pub returns-in_err-merged-in-None-clause-fault : goal.returns-in_err-merged-in-N
 returns-in_err-merged-in-None-clause-fault c =
     let p = err_from_is_err_and c.from_residual-in_err-merged-in-None.result c.from_residual-in_err-merged-in-None.ensures.1 in
     let differ = subst (λ found. IfNone found (AllDiffer c.args.base.now c.args.ours.now c.args.theirs.now)) c.in-None.is c.in_ok-found.ensures.differ in
-    rw (p.1, p.2) (IsThreeFault.changed _ differ c.in_err-merged-in-None.ensures.fault)
+    rw (p.1, p.2) (three_fault _ _ _ differ _ c.in_err-merged-in-None.ensures.fault)

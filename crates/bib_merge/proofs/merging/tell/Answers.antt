@@ -1,8 +1,12 @@
-use Rattle.std.proofs.Common.{sym, subst}
+use Rattle.std.proofs.Common.{map, sym, subst}
 use Rattle.std.proofs.lemmas.Result.{err_from_is_err_and}
+use Rattle.bib_spec.specs.Text.{Text}
 use Rattle.bib_spec.specs.Reading.{Reads}
 use Rattle.bib_spec.specs.Texts.{IsOpenable}
-use Rattle.bib_merge.specs.Merges.{IsMergedFault}
+use Rattle.merge_spec.specs.Units.{units_of}
+use Rattle.bib_places.specs.PlacesSeen.{place_seen}
+use Rattle.bib_merge.specs.Merges.{RefusesText, IsOrMemory}
+use Rattle.bib_merge.proofs.RefusedTexts.{weaker}
 use Rattle.bib_merge.proofs.merging.tell.Goals as goal
 
 pub returns-clause-lost : goal.returns-clause-lost
@@ -22,9 +26,12 @@ returns-clause-opens c = subst IsOpenable c.as_slice.ensures c.in_ok-lost.ensure
 pub returns-in_err-conflicts-clause-fault : goal.returns-in_err-conflicts-clause-fault
 returns-in_err-conflicts-clause-fault c =
     let p = err_from_is_err_and c.from_residual.result c.from_residual.ensures.1 in
-    rw (p.1, p.2) IsMergedFault.no_memory
+    rw (p.1, p.2) IsOrMemory.no_memory
 
 pub returns-in_err-lost-clause-fault : goal.returns-in_err-lost-clause-fault
 returns-in_err-lost-clause-fault c =
     let p = err_from_is_err_and c.from_residual-in_err-lost.result c.from_residual-in_err-lost.ensures.1 in
-    rw (p.1, p.2) c.in_err-lost.ensures.fault
+    rw (p.1, p.2)
+    (weaker _ _
+    (λ fault refuses ro rt so st. subst (λ (t : Text). RefusesText ro rt (map (place_seen (units_of ro) (units_of rt)) c.args.places.now) t fault) c.as_slice.ensures (refuses ro rt so st))
+    _ c.in_err-lost.ensures.fault)

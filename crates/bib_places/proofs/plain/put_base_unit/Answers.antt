@@ -1,0 +1,23 @@
+use Rattle.std.proofs.Common.{Some, ◌∷◌, map, sym, ◌∙◌, subst}
+use Rattle.merge_spec.specs.Units.{units_of, spaced_of}
+use Rattle.bib_units.specs.Labels.{label_seen}
+use Rattle.bib_places.specs.PlacesSeen.{place_seen}
+use Rattle.bib_places.proofs.PlacesPut.{Has, first-goes, base-past}
+use Rattle.bib_places.proofs.PlainPlaces.{seen-unit, unseen, put-place}
+use Rattle.bib_places.proofs.plain.put_base_unit.Goals as goal
+
+pub returns-in_ok-push-in-Some : goal.returns-in_ok-push-in-Some
+returns-in_ok-push-in-Some g c rb ro rt sb so st labels counts left so_far =
+    let unit = c.in-Some.unit in
+    let here = seen-unit rb c.args.base.now.units.now (spaced_of rb) c.args.n unit sb.are (sym c.unit_with.ensures ∙ c.in-Some.is) in
+    put-place labels rb ro rt c.args.places.now.items c.push.new.self.items c.in_ok-place-in-Some.place (Some c.args.n) c.take-o.result c.take-t.result (label_seen unit.label) (c.args.n ∷ left) left
+    c.args.of_ours.now.items c.take-o.new.numbers.items c.args.of_theirs.now.items c.take-t.new.numbers.items
+    c.in_ok-push-in-Some.ensures.items c.in_ok-place-in-Some.ensures.base c.in_ok-place-in-Some.ensures.ours c.in_ok-place-in-Some.ensures.theirs
+    (first-goes c.args.n left) (subst (λ o. Has (label_seen unit.label) o) (sym here.1) here.2)
+    (c.take-o.ensures ro (spaced_of ro) so.are) (c.take-t.ensures rt (spaced_of rt) st.are)
+    (c.in_ok-place-in-Some.ensures.may rb ro rt sb so st labels counts) c.in_ok-place-in-Some.ensures.white so_far
+
+pub returns-in-None : goal.returns-in-None
+returns-in-None g c rb ro rt sb so st labels counts left so_far =
+    base-past labels (units_of rb) (units_of ro) (units_of rt) (map (place_seen (units_of ro) (units_of rt)) c.args.places.now.items) c.args.n left c.args.of_ours.now.items c.args.of_theirs.now.items
+    (unseen rb c.args.base.now.units.now (spaced_of rb) c.args.n sb.are (sym c.unit_with.ensures ∙ c.in-None.is)) so_far
