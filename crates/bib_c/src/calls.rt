@@ -11,14 +11,12 @@ ghost use Rattle.bib_c.specs.Calls.{forgotten, journal_if, Opens, Edits, RunsScr
 use crate::asking::{Options, asked_of};
 use crate::report::Report;
 use crate::words::words_of;
+use bib_data::DEPTH_LIMIT;
 use bib_journal::SessionFault;
 use bib_run::Command;
 use bib_state::{CallFault, State};
 use bib_words::status;
 use std::alloc::{AllocError, Global};
-
-/// The greatest depth of an entry that is told.
-const DEPTH_LIMIT: u8 = 8;
 
 /// Opens a session over these bytes.
 pub fn open(

@@ -2,6 +2,10 @@
 
 use bib_text::{Seq, Text};
 
+/// The greatest depth of records: how many generations of parents an entry may be asked to inherit from (dialect). The least is 1, which is
+/// BibTeX's.
+pub const DEPTH_LIMIT: u8 = 8;
+
 /// An entry to be added: its type, its key, and its fields' names and values, as bytes.
 #[derive(Debug, Drop)]
 pub struct NewEntry {
@@ -48,8 +52,8 @@ pub enum Edit {
         from: Text,
         to: Text,
     },
-    /// Gives all entries generated keys at once, made from their records at this depth, from 1 to 8, and changes each
-    /// crossref to the new key of its target.
+    /// Gives all entries generated keys at once, made from their records at this depth, from 1 to `DEPTH_LIMIT`, and
+    /// changes each crossref to the new key of its target.
     RegenerateKeys {
         depth: u8,
     },

@@ -10,7 +10,7 @@ mod position;
 mod record;
 mod request;
 
-pub use edit::{Edit, NewEntry};
+pub use edit::{DEPTH_LIMIT, Edit, NewEntry};
 pub use label::{LABEL_LIMIT, Label, is_label};
 pub use piece::Piece;
 pub use position::Position;

@@ -82,7 +82,8 @@ fn place_among_others<L: ItemList>(
 
 /// The pieces that make the edit at this position in place of its own, or the first reason that refuses it. The reasons
 /// against the position come first. If an entry moves before or after another one, or to the end, it isn't counted itself;
-/// a number counts as in `MoveEntry`. It takes two look-ups more than `plan`. (dialect)
+/// a number counts as in `MoveEntry`. It takes two look-ups more than `plan`. An edit that makes
+/// keys has a depth of 1 to `bib_data::DEPTH_LIMIT`. (dialect)
 pub fn plan_at<L: ItemList>(
     alloc: Global,
     db: &Database<L>,

@@ -6,14 +6,24 @@ ghost use Rattle.bib_spec.specs.Text.{Text as Bytes, same};
 ghost use Rattle.bib_items.specs.Glancing.{LacksWord};
 
 use bib_scan::same_folded;
-use memchr::arch::all::packedpair::Pair;
+use memchr::arch::all::packedpair::{DefaultFrequencyRank, HeuristicFrequencyRank, Pair};
 use memchr::{memchr, memchr2};
+
+/// How common a byte is where letters are sought in both cases: a capital is as common as its small letter.
+#[derive(Clone, Copy, Debug)]
+struct FoldedRank;
+
+impl HeuristicFrequencyRank for FoldedRank {
+    fn rank(&self, byte: u8) -> u8 {
+        DefaultFrequencyRank.rank(byte.to_ascii_lowercase())
+    }
+}
 
 /// The number of the word's byte that is rarest in most texts. Only time depends on it.
 pub(crate) fn rarest(word: &[u8]) -> usize
     ensures { 0 < length word.now → result < length word.now }
 {
-    match Pair::new(word) {
+    match Pair::with_ranker(word, FoldedRank) {
         Some(pair) => pair.index1() as usize,
         None => 0,
     }

@@ -23,7 +23,7 @@ mod stepping;
 mod text_len;
 mod untouched_items;
 
-pub use bib_data::{LABEL_LIMIT, Label, Request, is_label};
+pub use bib_data::{DEPTH_LIMIT, LABEL_LIMIT, Label, Request, is_label};
 pub use changing::{Changes, Turned, read_changes, redo_changes, undo_changes};
 pub use fault::SessionFault;
 pub use journal_format::{CHANGE_LIMIT, STEP_TEXTS_LIMIT, Step};

@@ -16,7 +16,7 @@ pub struct Performed {
     pub fault: Option<SessionFault>,
 }
 
-/// Does one request.
+/// Does one request. One that makes keys has a depth of 1 to `DEPTH_LIMIT`.
 pub fn perform_one<L: ItemList>(
     session: &mut Session<L>,
     request: &Request,
@@ -56,7 +56,8 @@ pub fn repeat<L: ItemList>(session: &mut Session<L>, request: &Request, times: u
     }
 }
 
-/// Does the requests in order, up to the first that is refused. What those before it did is kept, and it changes nothing.
+/// Does the requests in order, up to the first that is refused. What those before it did is kept, and it changes nothing. Those that make
+/// keys have a depth of 1 to `DEPTH_LIMIT`.
 pub fn perform<L: ItemList>(session: &mut Session<L>, requests: &[Request]) -> Performed
     requires { All AsksWithDepth requests.now }
     ensures { Performs requests.now result.done result.fault session.old session.new }

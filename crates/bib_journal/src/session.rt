@@ -248,6 +248,7 @@ impl<L: ItemList> Session<L> {
     /// takes time and memory as `plan` and `Database::splice` do. If the step that is open has edits, it also takes them for
     /// those of its pieces that the edit is near. It moves the others as memory, and their ends by one number. An edit of one
     /// piece that begins inside a piece of the step changes that piece in place: only the bytes after it move, as memory.
+    /// An edit that makes keys has a depth of 1 to `DEPTH_LIMIT`.
     pub fn edit(&mut self, edit: &Edit) -> Result<(), SessionFault>
         requires { HasDepth edit.now }
         ensures made { OnOk result (MakesEdit edit.now self.old self.new) }
@@ -263,7 +264,8 @@ impl<L: ItemList> Session<L> {
     }
 
     /// Makes an edit as `edit` does, at this position in place of its own: an entry is added there, or moved there. It is refused
-    /// first if no entry has the key of the position, or several have it. It takes two look-ups more than `edit`.
+    /// first if no entry has the key of the position, or several have it. It takes two look-ups more than `edit`. An edit that makes keys has
+    /// a depth of 1 to `DEPTH_LIMIT`.
     pub fn edit_at(&mut self, position: &Position, edit: &Edit) -> Result<(), SessionFault>
         requires { HasDepth edit.now }
         ensures made { OnOk result (MakesEditAt position.now edit.now self.old self.new) }

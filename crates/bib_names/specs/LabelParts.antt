@@ -1,10 +1,11 @@
 -- What each field gives to a label by itself, so that the texts that entries inherit need not be read for each of them.
-use Rattle.std.specs.Prelude.{Bool, List, [], ◌∷◌, ◌++◌, Option, None, Some, codes, filter, unwrap_or, if◌then◌else◌}
+use Rattle.std.specs.Prelude.{◌≡◌, Bool, List, [], ◌∷◌, ◌++◌, Option, None, Some, codes, filter, unwrap_or, if◌then◌else◌}
 use Rattle.std.specs.List.{list_any}
 use Rattle.std.specs.Option.{option_or, option_flatten}
 use Rattle.std.specs.Char.{is_ascii_digit}
 use Rattle.bib_spec.specs.Text.{Text, same}
-use Rattle.bib_names.specs.Label.{Fields, text_in, listed_names, letters_of_names, first_three, or_anon, last_two}
+use Rattle.bib_spec.specs.Records.{missing}
+use Rattle.bib_names.specs.Label.{Fields, text_in, listed_names, letters_of_names, first_three, or_anon, last_two, label_base}
 use Rattle.bib_names.specs.declared.label_fields.LabelParts.{LabelParts}
 
 -- ---- what a text gives
@@ -64,3 +65,14 @@ parts_with own inherited = record {
   key = option_or own.key inherited.key;
   year = option_or own.year inherited.year;
 }
+
+-- ---- laws
+
+-- the label base of fields is made of what each of them gives by itself
+abbrev pub parts_make_the_base : Type 0
+parts_make_the_base = (fields : Fields) → base_from (parts_of fields) ≡ label_base fields
+
+-- what own fields, and after them the inherited ones that are missing, give is what the own fields give, and for each part that they lack
+-- what the inherited fields give
+abbrev pub parts_are_inherited : Type 0
+parts_are_inherited = (own others : Fields) → parts_of (own ++ missing own others) ≡ parts_with (parts_of own) (parts_of others)

@@ -3,7 +3,7 @@
 ghost use Rattle.std.specs.Prelude.{◌≡◌, ◌++◌, [], IfOk, IfErr, OnOk, codes, map, unwrap_or};
 ghost use Rattle.std.specs.Option.{option_copied, option_flatten, option_or};
 ghost use Rattle.bib_names.specs.Label.{first_three, label_base};
-ghost use Rattle.bib_names.specs.LabelParts.{letters_if_any, letters_in, year_digits, parts_of, parts_with, letters_from, base_from, has_field, given};
+ghost use Rattle.bib_names.specs.LabelParts.{letters_if_any, letters_in, year_digits, parts_of, parts_with, letters_from, base_from, has_field, given, parts_make_the_base, parts_are_inherited};
 
 use crate::fault::NameFault;
 use crate::label::{
@@ -242,3 +242,9 @@ pub fn label_base_with(
 {
     Ok(base_with(alloc, fields, inherited)?)
 }
+
+/// A label base is made of what each field gives by itself, and what is inherited is given for what is missing.
+pub fn label_bases_are_made_of_parts()
+    ensures base { parts_make_the_base }
+    ensures inherited { parts_are_inherited }
+{}

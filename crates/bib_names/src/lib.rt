@@ -26,7 +26,9 @@ mod word;
 
 pub use fault::NameFault;
 pub use label::{label_base, label_names, text_in};
-pub use label_fields::{Inherited, LabelParts, label_base_with, label_parts};
+pub use label_fields::{
+    Inherited, LabelParts, label_base_with, label_bases_are_made_of_parts, label_parts,
+};
 pub use labelling::{labels, labels_of};
 pub use made_key::{BASE_LIMIT, candidate, key_base, key_bases_are_keys, key_letters};
 pub use name::{Name, split_name};

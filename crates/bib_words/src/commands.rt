@@ -2,13 +2,11 @@
 
 use crate::verbs::{Shape, Verb};
 use aux_text::AuxKeys;
+use bib_data::DEPTH_LIMIT;
 use bib_text::{Seq, Text};
 
 /// The greatest number that a command takes.
 const NUMBER_LIMIT: u32 = 65_535;
-
-/// The greatest depth of the records that a command shows.
-const DEPTH_LIMIT: u8 = 8;
 
 /// A command: its name; its arguments in order, the file first if there is one, for `diff` the old one and the new one, and for
 /// `lint` after it the codes to ignore;
