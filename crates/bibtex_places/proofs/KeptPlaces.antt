@@ -9,7 +9,7 @@ use Rattle.bibtex_spec.specs.Places as spec
 use Rattle.bibtex_spec.specs.Places.{held_by, taken, named_again, named}
 use Rattle.bibtex_spec.specs.Listed.{place_with, holder}
 use Rattle.bibtex_places.specs.declared.place.Place.{Place}
-use Rattle.bibtex_places.specs.KeyTables.{FindsKeys}
+use Rattle.bibtex_places.specs.KeyTables.{Numbers, FindsKeys}
 use Rattle.bibtex_places.specs.Seen.{seen}
 use Rattle.bibtex_places.specs.Steps.{if_empty, awaiting, CountsAtMost}
 use Rattle.bibtex_places.proofs.PlaceLists.{keys_in, IsFound, found_place, taken_set, named_set, keys_set, held_key, count_at}
@@ -64,14 +64,14 @@ module _ (key : Text) (ps : List Place) (i : ℕ) (at : place_with key (map seen
         ap (λ (place : spec.Place). same key place.spelled) (same_Some (seen p) found.0 (sym kept_at ∙ found.1.there)) ∙ found.1.alike
 
     -- another spelling of the key leaves the table right
-    finds_set : (table : List (Text × ℕ)) (q : Place) → FindsKeys table (keys_in (map seen ps)) → folded q.spelled ≡ folded p.spelled → FindsKeys table (keys_in (map seen (set ps i q)))
+    finds_set : (table : Numbers) (q : Place) → FindsKeys table (keys_in (map seen ps)) → folded q.spelled ≡ folded p.spelled → FindsKeys table (keys_in (map seen (set ps i q)))
     finds_set table q finds e name =
         finds name ∙ sym (ap (place_with name) (map-set seen ps i q) ∙ keys_set name (map seen ps) i (seen p) (seen q) kept_at e)
 
-    pub finds_held : (table : List (Text × ℕ)) (q : Place) (n : ℕ) → FindsKeys table (keys_in (map seen ps)) → ((entry : EntryTexts) → entry.key ≡ key → seen q ≡ held_by entry n (seen p)) → FindsKeys table (keys_in (map seen (set ps i q)))
+    pub finds_held : (table : Numbers) (q : Place) (n : ℕ) → FindsKeys table (keys_in (map seen ps)) → ((entry : EntryTexts) → entry.key ≡ key → seen q ≡ held_by entry n (seen p)) → FindsKeys table (keys_in (map seen (set ps i q)))
     finds_held table q n finds held =
         let entry : EntryTexts = record { kind = []; key = key; fields = [] } in
         finds_set table q finds (ap (λ (place : spec.Place). folded place.spelled) (held entry refl) ∙ held_key entry n (seen p) alike)
 
-    pub finds_named : (table : List (Text × ℕ)) (q : Place) → FindsKeys table (keys_in (map seen ps)) → seen q ≡ named_again (seen p) → FindsKeys table (keys_in (map seen (set ps i q)))
+    pub finds_named : (table : Numbers) (q : Place) → FindsKeys table (keys_in (map seen ps)) → seen q ≡ named_again (seen p) → FindsKeys table (keys_in (map seen (set ps i q)))
     finds_named table q finds e = finds_set table q finds (ap (λ (place : spec.Place). folded place.spelled) e)

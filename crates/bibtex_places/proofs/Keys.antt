@@ -9,8 +9,7 @@ use Rattle.bib_spec.specs.Records.{EntryTexts}
 use Rattle.bib_spec.proofs.Names.{same-true, same_of, same_comm, true-same}
 use Rattle.bibtex_spec.specs.Places.{is_star, each_once, cited_keys, Place, added_place}
 use Rattle.bibtex_spec.specs.Listed.{first_same}
-use Rattle.folded_map.specs.FoldedMap.{value_at, IsWith}
-use Rattle.bibtex_places.specs.KeyTables.{FindsKeys}
+use Rattle.bibtex_places.specs.KeyTables.{Numbers, number_of, FindsKeys, IsNumbered}
 use Rattle.bibtex_places.specs.Steps.{with_cited, spelled_as}
 
 -- ---- the first key that is the same
@@ -40,7 +39,7 @@ first_more name key (k ∷ ks) =
     at false None false = refl
 
 -- a table of keys of which one is the same as the new key finds the new key, too
-pub table_old : (table : List (Text × ℕ)) (ks : List Text) (key : Text) → FindsKeys table ks → is_some (value_at table (folded key)) ≡ true → FindsKeys table (ks ++ key ∷ [])
+pub table_old : (table : Numbers) (ks : List Text) (key : Text) → FindsKeys table ks → is_some (number_of table key) ≡ true → FindsKeys table (ks ++ key ∷ [])
 table_old table ks key finds old name = finds name ∙ at (first_same name ks) refl ∙ sym (first_more name key ks)
   where
     at : (o : Option ℕ) → first_same name ks ≡ o → first_same name ks ≡ found_then (first_same name ks) (cond (same name key) (Some (length ks)) None)
@@ -49,22 +48,22 @@ table_old table ks key finds old name = finds name ∙ at (first_same name ks) r
       where
         other : (b : Bool) → same name key ≡ b → None ≡ cond b (Some (length ks)) None
         other false s = refl
-        other true s = absurd (both_ways (is_some (value_at table (folded key))) (ap is_some (finds key ∙ sym (first_alike name key s ks) ∙ e)) old)
+        other true s = absurd (both_ways (is_some (number_of table key)) (ap is_some (finds key ∙ sym (first_alike name key s ks) ∙ e)) old)
 
 -- and otherwise it finds the new key once that has a number
-pub table_new : (old new : List (Text × ℕ)) (ks : List Text) (key : Text) (n : ℕ) → FindsKeys old ks → is_some (value_at old (folded key)) ≡ false → IsWith old key n new → n ≡ length ks
+pub table_new : (old new : Numbers) (ks : List Text) (key : Text) (n : ℕ) → FindsKeys old ks → is_some (number_of old key) ≡ false → IsNumbered old key n new → n ≡ length ks
     → FindsKeys new (ks ++ key ∷ [])
-table_new old new ks key n finds none with is name = with (folded name) ∙ at (same name key) refl ∙ sym (first_more name key ks)
+table_new old new ks key n finds none with is name = with name ∙ at (same name key) refl ∙ sym (first_more name key ks)
   where
     unfound : (o : Option ℕ) → is_some o ≡ false → o ≡ None
     unfound None e = refl
     unfound (Some i) e = absurd (both_ways true e refl)
 
-    at : (b : Bool) → same name key ≡ b → cond b (Some n) (value_at old (folded name)) ≡ found_then (first_same name ks) (cond (same name key) (Some (length ks)) None)
+    at : (b : Bool) → same name key ≡ b → cond b (Some n) (number_of old name) ≡ found_then (first_same name ks) (cond (same name key) (Some (length ks)) None)
     at true e =
         ap Some is
         ∙ sym (cond-true (same name key) (Some (length ks)) None e)
-        ∙ ap (λ o. found_then o (cond (same name key) (Some (length ks)) None)) (sym (first_alike name key e ks ∙ sym (finds key) ∙ unfound (value_at old (folded key)) none))
+        ∙ ap (λ o. found_then o (cond (same name key) (Some (length ks)) None)) (sym (first_alike name key e ks ∙ sym (finds key) ∙ unfound (number_of old key) none))
     at false e = finds name ∙ other (first_same name ks) ∙ ap (λ b. found_then (first_same name ks) (cond b (Some (length ks)) None)) (sym e)
       where
         other : (o : Option ℕ) → o ≡ found_then o None

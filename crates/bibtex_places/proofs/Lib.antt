@@ -1,5 +1,6 @@
 -- ---- keys and places
 pub mod Keys
+pub mod Numbers
 pub mod PlaceLists
 pub mod KeptPlaces
 pub mod ReadSteps

@@ -8,7 +8,7 @@ use Rattle.bib_spec.specs.Records.{EntryTexts, keys_of}
 use Rattle.bibtex_spec.specs.Places.{Place, cited_place, cited_keys, read_entry, read_entries, read_any, read_all}
 use Rattle.bibtex_places.specs.Steps.{with_cited, CountsAtMost}
 use Rattle.bibtex_places.specs.declared.lists.EntryKey.{EntryKey}
-use Rattle.bibtex_places.specs.KeyTables.{FindsKeys}
+use Rattle.bibtex_places.specs.KeyTables.{Numbers, FindsKeys}
 use Rattle.bibtex_places.specs.Lists.{AreKeysOf}
 use Rattle.bibtex_places.proofs.Entries.{given_at}
 use Rattle.bibtex_places.proofs.Keys.{cited_more}
@@ -67,7 +67,7 @@ keys_next texts i entry at = take_next (keys_of texts) i entry.key (at_key texts
     at_key (first ∷ texts) zero h = ap (λ (e : EntryTexts). Some e.key) (same_Some first entry h)
     at_key (first ∷ texts) (suc i) h = at_key texts i h
 
-pub keys_finds : (table : List (Text × ℕ)) (given : List EntryKey) (texts : List EntryTexts) (n : ℕ) (g : EntryKey) → slice_get given n ≡ Some g → AreKeysOf given texts
+pub keys_finds : (table : Numbers) (given : List EntryKey) (texts : List EntryTexts) (n : ℕ) (g : EntryKey) → slice_get given n ≡ Some g → AreKeysOf given texts
     → FindsKeys table (take n (keys_of texts) ++ g.key.now ∷ []) → FindsKeys table (take (n + 1) (keys_of texts))
 keys_finds table given texts n g at are finds =
     let entry = given_at given texts are n g at in

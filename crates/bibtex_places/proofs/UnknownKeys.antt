@@ -8,14 +8,13 @@ use Rattle.bib_spec.specs.Text.{Text, folded, same}
 use Rattle.bib_spec.specs.Records.{EntryTexts, keys_of}
 use Rattle.bibtex_spec.specs.Places.{is_star}
 use Rattle.bibtex_spec.specs.Listed.{first_same, is_missing}
-use Rattle.folded_map.specs.FoldedMap.{value_at}
-use Rattle.bibtex_places.specs.KeyTables.{FindsKeys}
+use Rattle.bibtex_places.specs.KeyTables.{Numbers, number_of, FindsKeys}
 use Rattle.bibtex_places.specs.Lists.{is_unknown, unknown_places}
 use Rattle.bibtex_places.proofs.Keys.{any_first}
 use Rattle.bibtex_places.proofs.ListedEntries.{take_next}
 
 -- a key that the table of all keys does not find is missing
-pub missing_is : (table : List (Text × ℕ)) (entries : List EntryTexts) (key : Text) → FindsKeys table (keys_of entries) → is_missing entries key ≡ is_none (value_at table (folded key))
+pub missing_is : (table : Numbers) (entries : List EntryTexts) (key : Text) → FindsKeys table (keys_of entries) → is_missing entries key ≡ is_none (number_of table key)
 missing_is table entries key finds = ap not (any_first key (keys_of entries)) ∙ at (first_same key (keys_of entries)) ∙ ap (λ (o : Option ℕ). is_none o) (sym (finds key))
   where
     at : (o : Option ℕ) → not (is_some o) ≡ is_none o
@@ -72,7 +71,7 @@ unknown_next entries keys i key unknown more o at h is pushed = pushed ∙ ap (�
 pub star_known : (entries : List EntryTexts) (key : Text) → is_star key ≡ true → false ≡ is_unknown entries key
 star_known entries key e = sym (ap (λ (b : Bool). not b && is_missing entries key) e)
 
-pub found_known : (table : List (Text × ℕ)) (entries : List EntryTexts) (key : Text) → FindsKeys table (keys_of entries) → is_some (value_at table (folded key)) ≡ true → false ≡ is_unknown entries key
+pub found_known : (table : Numbers) (entries : List EntryTexts) (key : Text) → FindsKeys table (keys_of entries) → is_some (number_of table key) ≡ true → false ≡ is_unknown entries key
 found_known table entries key finds e =
     sym (ap (λ (b : Bool). not (is_star key) && not b) (any_first key (keys_of entries) ∙ ap (λ (o : Option ℕ). is_some o) (sym (finds key)) ∙ e) ∙ at (is_star key))
   where
@@ -80,7 +79,7 @@ found_known table entries key finds e =
     at true = refl
     at false = refl
 
-pub lost_unknown : (table : List (Text × ℕ)) (entries : List EntryTexts) (key : Text) → FindsKeys table (keys_of entries) → is_star key ≡ false → is_some (value_at table (folded key)) ≡ false → true ≡ is_unknown entries key
+pub lost_unknown : (table : Numbers) (entries : List EntryTexts) (key : Text) → FindsKeys table (keys_of entries) → is_star key ≡ false → is_some (number_of table key) ≡ false → true ≡ is_unknown entries key
 lost_unknown table entries key finds star e =
     sym (
     ap (λ (b : Bool). not b && is_missing entries key) star

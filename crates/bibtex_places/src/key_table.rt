@@ -3,6 +3,8 @@
 ghost use Rattle.std.specs.Prelude.{◌≡◌, [], ◌∷◌, IfOk};
 ghost use Rattle.bib_spec.specs.Text.{folded};
 
+use bib_text::NAME_LIMIT;
+use folded_map::FoldedMap;
 use indexmap::IndexMap;
 use std::alloc::{AllocError, Global};
 use std::hash::{Hash, Hasher};
@@ -78,23 +80,25 @@ impl Hash for FoldedKey {
 #[derive(Drop)]
 pub(crate) struct KeyTable {
     alloc: Global,
-    entries: IndexMap<FoldedKey, usize>,
+    // without memory for a look-up
+    short: FoldedMap<usize>,
+    long: IndexMap<FoldedKey, usize>,
 }
 
 impl Model for KeyTable {
-    ghost use Rattle.std.specs.Prelude.{ℕ, List};
-    ghost use Rattle.bib_spec.specs.Text.{Text};
+    ghost use Rattle.bibtex_places.specs.KeyTables.{Numbers};
 
-    ghost Value = { List (Text × ℕ) };
+    ghost Value = { Numbers };
 
-    ghost view = { λ t. t.entries.entries };
+    ghost view = { λ t. record { short = t.short; long = t.long.entries } };
 }
 
 impl KeyTable {
-    ghost use Rattle.std.specs.Prelude.{◌≡◌, List, [], ◌∷◌, ◌++◌, length, IfOk, OnOk};
+    ghost use Rattle.std.specs.Prelude.{◌≡◌, ◌≤◌, List, [], ◌∷◌, ◌++◌, length, IfOk, OnOk};
+    ghost use Rattle.bib_spec.specs.Bytes.{name_limit};
     ghost use Rattle.bib_spec.specs.Text.{Text as Bytes, folded};
     ghost use Rattle.folded_map.specs.FoldedMap.{value_at, IsWith};
-    ghost use Rattle.bibtex_places.specs.KeyTables.{FindsKeys};
+    ghost use Rattle.bibtex_places.specs.KeyTables.{number_of, FindsKeys, IsNumbered};
 
     /// The table of no keys. It takes no memory.
     pub fn new(alloc: Global) -> Self
@@ -102,24 +106,32 @@ impl KeyTable {
     {
         KeyTable {
             alloc,
-            entries: IndexMap::new(alloc),
+            short: FoldedMap::new(alloc),
+            long: IndexMap::new(alloc),
         }
     }
 
-    /// The number of the key, if it has one.
+    /// The number of the key, if it has one. It takes no memory if the key is no longer than one of a file.
     pub fn get(&self, key: &[u8]) -> Result<Option<usize>, AllocError>
-        ensures { IfOk result (λ n. n ≡ value_at self.now (folded key.now)) }
+        ensures { IfOk result (λ n. n ≡ number_of self.now key.now) }
     {
+        if key.len() <= NAME_LIMIT {
+            return Ok(self.short.get(key).copied());
+        }
         let folded = FoldedKey::of(self.alloc, key)?;
-        Ok(self.entries.get(&folded).copied())
+        Ok(self.long.get(&folded).copied())
     }
 
     /// Gives the key this number.
     fn set(&mut self, key: &[u8], n: usize) -> Result<(), AllocError>
-        ensures { OnOk result (IsWith self.old key.now n self.new) }
+        ensures { OnOk result (IsNumbered self.old key.now n self.new) }
     {
+        if key.len() <= NAME_LIMIT {
+            self.short.insert(key, n)?;
+            return Ok(());
+        }
         let folded = FoldedKey::of(self.alloc, key)?;
-        self.entries.insert(folded, n)?;
+        self.long.insert(folded, n)?;
         Ok(())
     }
 

@@ -209,21 +209,53 @@ fn unknown_at(table: &KeyTable, place: usize, key: &[u8]) -> Result<Option<usize
     }
 }
 
-/// The places of the keys that no entry has.
-fn unknown_places(
-    alloc: Global,
-    entries: &[EntryKey<'_>],
-    keys: &[Text],
-) -> Result<Vec<usize>, AllocError>
-    ensures { IfOk result (λ unknown. (texts : List EntryTexts) → AreKeysOf entries.now texts → unknown.items ≡ unknown_places texts keys.now) }
+/// The places of the keys that no entry has. `table` has the keys of all entries.
+fn unknown_places(alloc: Global, table: &KeyTable, keys: &[Text]) -> Result<Vec<usize>, AllocError>
+    ensures { IfOk result (λ unknown. (texts : List EntryTexts) → FindsKeys table.now (keys_of texts) → unknown.items ≡ unknown_places texts keys.now) }
 {
-    let table = table_of(alloc, entries)?;
     let mut unknown = Vec::new(alloc);
     'seek: for place in 0..keys.len() {
-        let at = unknown_at(&table, place, keys[place].as_slice())?;
+        let at = unknown_at(table, place, keys[place].as_slice())?;
         push_some(&mut unknown, at)?;
     }
     Ok(unknown)
+}
+
+/// What `list_as_bibtex` gives. `table` has the keys of all entries.
+fn list_of(
+    alloc: Global,
+    entries: &[EntryKey<'_>],
+    keys: &[Text],
+    least: u32,
+    table: &KeyTable,
+    cited: &Cited,
+) -> Result<BibtexList, BibtexFault>
+    requires { cited.now ≡ cited_keys keys.now }
+    ensures listed { IfOk result (λ list. (texts : List EntryTexts) → AreKeysOf entries.now texts → FindsKeys table.now (keys_of texts) → list.listed ≡ listed_entries texts keys.now least) }
+    ensures unknown { IfOk result (λ list. (texts : List EntryTexts) → AreKeysOf entries.now texts → FindsKeys table.now (keys_of texts) → list.unknown ≡ unknown_places texts keys.now) }
+    ensures short { OnOk result ((texts : List EntryTexts) → AreKeysOf entries.now texts → FindsKeys table.now (keys_of texts) → is_too_deep texts keys.now least ≡ false) }
+    ensures deep { IfErr result (λ fault. fault ≡ TooDeep → (texts : List EntryTexts) → AreKeysOf entries.now texts → FindsKeys table.now (keys_of texts) → is_too_deep texts keys.now least ≡ true) }
+{
+    let all = are_all_cited(keys);
+    let places = places_of(alloc, entries, keys, cited)?;
+    let parents = parents_of(alloc, table, entries, all, cited, &places)?;
+    let unknown = unknown_places(alloc, table, keys)?;
+    let sources = Sources {
+        alloc,
+        entries,
+        cited,
+        places: places.as_slice(),
+        parents: parents.as_slice(),
+        all,
+        least,
+    };
+    match list(&sources) {
+        Ok(listed) => Ok(BibtexList {
+            listed: Seq::from_vec(listed),
+            unknown: Seq::from_vec(unknown),
+        }),
+        Err(fault) => Err(fault),
+    }
 }
 
 /// What `list_as_bibtex` gives.
@@ -238,24 +270,12 @@ fn make_list(
     ensures short { OnOk result ((texts : List EntryTexts) → AreKeysOf entries.now texts → is_too_deep texts keys.now least ≡ false) }
     ensures deep { IfErr result (λ fault. fault ≡ TooDeep → (texts : List EntryTexts) → AreKeysOf entries.now texts → is_too_deep texts keys.now least ≡ true) }
 {
-    let all = are_all_cited(keys);
+    let table = table_of(alloc, entries)?;
     let cited = Cited::of(alloc, keys)?;
-    let places = places_of(alloc, entries, keys, &cited)?;
-    let parents = parents_of(alloc, entries, all, &cited, &places)?;
-    let unknown = unknown_places(alloc, entries, keys)?;
-    let listed = list(&Sources {
-        alloc,
-        entries,
-        cited: &cited,
-        places: places.as_slice(),
-        parents: parents.as_slice(),
-        all,
-        least,
-    })?;
-    Ok(BibtexList {
-        listed: Seq::from_vec(listed),
-        unknown: Seq::from_vec(unknown),
-    })
+    match list_of(alloc, entries, keys, least, &table, &cited) {
+        Ok(list) => Ok(list),
+        Err(fault) => Err(fault),
+    }
 }
 
 /// The list that BibTeX 0.99d gives to a style for these keys, and the places of those keys that no entry has. `entries` has the

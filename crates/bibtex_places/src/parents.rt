@@ -101,21 +101,21 @@ fn parent_of(
     Ok(named)
 }
 
-/// The parent places of all places.
+/// The parent places of all places. `table` has the keys of all entries.
 pub(crate) fn parents_of(
     alloc: Global,
+    table: &KeyTable,
     entries: &[EntryKey<'_>],
     all: bool,
     cited: &Cited,
     places: &Places,
 ) -> Result<Vec<Option<usize>>, AllocError>
-    ensures { IfOk result (λ parents. (texts : List EntryTexts) (keys : List Bytes) → AreKeysOf entries.now texts → all ≡ are_all_cited keys → cited.now ≡ cited_keys keys → AreParents texts keys places.now parents.items) }
+    ensures { IfOk result (λ parents. (texts : List EntryTexts) (keys : List Bytes) → AreKeysOf entries.now texts → FindsKeys table.now (keys_of texts) → all ≡ are_all_cited keys → cited.now ≡ cited_keys keys → AreParents texts keys places.now parents.items) }
 {
-    let table = table_of(alloc, entries)?;
     let mut parents = Vec::new(alloc);
     'parents: for place in places.as_slice() {
         let crossref = crossref_of(entries, place.entry);
-        parents.push(parent_of(&table, all, cited, places, crossref)?)?;
+        parents.push(parent_of(table, all, cited, places, crossref)?)?;
     }
     Ok(parents)
 }
