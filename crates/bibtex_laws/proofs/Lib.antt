@@ -3,3 +3,9 @@ pub mod RenamedEntries
 pub mod NewKeys
 pub mod MacroLists
 pub mod OtherEntries
+pub mod StarPlaces
+pub mod StarRecords
+pub mod StarLists
+pub mod StarEdits
+pub mod HeldPlaces
+pub mod DialectRecords

@@ -18,13 +18,13 @@ use Rattle.bibtex_laws.specs.RenamingLists.{NoneNamesNothing, rename_key_keeps_l
 use Rattle.bibtex_laws.proofs.RenamedEntries.{KeepsNames, rekeying_keeps_lists}
 
 -- a text that does not name a key is not the same as the key, unless both are empty
-unnamed : (text key : Text) → is_named text key ≡ false → (text ≡ [] → key ≢ []) → same text key ≡ false
+pub unnamed : (text key : Text) → is_named text key ≡ false → (text ≡ [] → key ≢ []) → same text key ≡ false
 unnamed [] [] none apart = absurd (apart refl refl)
 unnamed (b ∷ text) [] none apart = false_from_ne_true (same (b ∷ text) []) (λ is. false≢true (ap is_empty (same-true (b ∷ text) [] is)))
 unnamed text (b ∷ key) none apart = same_comm text (b ∷ key) ∙ none
 
 -- a key that is the same as one that is named is named too
-named_too : (text key other : Text) → is_named text key ≡ true → same key other ≡ true → is_named text other ≡ true
+pub named_too : (text key other : Text) → is_named text key ≡ true → same key other ≡ true → is_named text other ≡ true
 named_too text [] other named is = absurd (false≢true named)
 named_too text (b ∷ key) [] named is = absurd (false≢true (ap is_empty (same-true (b ∷ key) [] is)))
 named_too text (b ∷ key) (c ∷ other) named is = true-same (c ∷ other) text (sym (same-true (b ∷ key) (c ∷ other) is) ∙ same-true (b ∷ key) text named)

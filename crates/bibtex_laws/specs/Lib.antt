@@ -1,2 +1,4 @@
 pub mod RenamingLists
 pub mod OtherEntries
+pub mod StarLists
+pub mod DialectRecords
