@@ -1,5 +1,5 @@
-//! What edits keep of the lists that BibTeX 0.99d gives to a style. There is no code here, only functions that do nothing and
-//! carry the laws.
+//! What edits keep of the lists that BibTeX 0.99d gives to a style, and which records of the dialect its records are. There is no
+//! code here, only functions that do nothing and carry the laws.
 #![tactic(auto)]
 
 mod other_entries;
