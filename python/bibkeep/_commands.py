@@ -52,8 +52,8 @@ def run(
 ) -> Answer:
     """Runs a command over the bytes of a file, and answers as the program does.
 
-    ``number`` is that of ``--steps`` or ``--min-crossrefs``. ``bibtex`` makes ``show``, ``cite``, ``json`` and ``ris`` answer as BibTeX
-    does, and ``depth`` then has no effect. ``aux`` names the aux files whose keys are among the arguments: no
+    ``number`` is that of ``--steps`` or ``--min-crossrefs``. ``bibtex`` makes ``show``, ``cite``, ``labels``, ``json``, ``names`` and
+    ``ris`` answer as BibTeX does, and ``depth`` then has no effect. ``aux`` names the aux files whose keys are among the arguments: no
     file is read, so ``lint`` finds no key that a document cites and no entry has. A refusal raises an Error, unless ``raises`` is
     False. Status 1 of ``lint``, of ``diff`` and of ``cite`` with ``strict`` is no refusal. ``diff`` takes the name of the new file,
     by which messages call it, and the new file as ``input``.

@@ -6,7 +6,8 @@ ghost use Rattle.bib_answers.specs.Messages.{no_such_entry_line, refusal_line};
 ghost use Rattle.bib_answers.specs.Outcome.{outcome_of, answer_of};
 
 use crate::messages::{NO_SUCH_ENTRY, refusal_line};
-use bib_scan::{ReadFault, Text, copied};
+use bib_scan::ReadFault;
+use bib_text::{Text, copied};
 use bib_words::status;
 use std::alloc::{AllocError, Global};
 

@@ -4,7 +4,8 @@ ghost use Rattle.std.specs.Prelude.{IfOk};
 ghost use Rattle.bib_answers.specs.Cat.{IsCatAnswer};
 
 use crate::answers::{Answer, done, unread};
-use bib_scan::{Text, read};
+use bib_scan::read;
+use bib_text::Text;
 use std::alloc::{AllocError, Global};
 
 /// The file again, or why it is not valid.

@@ -14,8 +14,9 @@ use crate::numbered::NumberedItem;
 use crate::opening::answer_file;
 use crate::reporting::add_item_reports;
 use crate::seen_names::SeenNames;
-use bib_scan::{Kind, Text};
+use bib_scan::Kind;
 use bib_store::{Database, Paged};
+use bib_text::Text;
 use std::alloc::{AllocError, Global};
 
 /// How many bytes are set aside for a report on an entry. Most keys fit in.

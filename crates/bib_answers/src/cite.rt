@@ -14,8 +14,8 @@ use crate::answers::{Answer, outcome_of};
 use crate::lines::add_all;
 use crate::listing::{Keyed, Line, Listing};
 use crate::opening::answer_file;
-use bib_scan::Text;
 use bib_store::{Database, Paged};
+use bib_text::Text;
 use bib_words::status;
 use std::alloc::{AllocError, Global};
 

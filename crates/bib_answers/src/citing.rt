@@ -6,8 +6,8 @@ ghost use Rattle.bib_store.specs.Readings.{OfReading};
 ghost use Rattle.bib_answers.specs.Cited.{all_cited};
 ghost use Rattle.bib_answers.specs.Marks.{AreEntryNumbers};
 
-use bib_scan::{Seq, Text};
 use bib_store::{Database, Paged};
+use bib_text::{Seq, Text};
 use std::alloc::AllocError;
 
 /// How many children of a parent must be cited before the parent is listed too. (btxdoc 2.1)

@@ -12,8 +12,8 @@ use crate::answers::{Answer, done, no_such_entry};
 use crate::lines::add_all;
 use crate::opening::answer_file;
 use crate::positions::{Position, first_known, known_at};
-use bib_scan::{Seq, Text};
 use bib_store::{Database, Paged};
+use bib_text::{Seq, Text};
 use itoa::Buffer;
 use std::alloc::{AllocError, Global};
 

@@ -9,8 +9,8 @@ use crate::answers::{Answer, done, refused};
 use crate::messages::{TOO_LONG, no_such_entry_in};
 use crate::opening::answer_file;
 use bib_extract::{ExtractFault, extract};
-use bib_scan::{Text, copied};
 use bib_store::{Database, Paged};
+use bib_text::{Text, copied};
 use std::alloc::{AllocError, Global};
 
 /// The extract of the file for these keys, or which key is the first that finds no entry, or that the extract is longer than a

@@ -8,7 +8,7 @@ use crate::messages::fault_name;
 use crate::named_files::{NamedFiles, Reached, first_reached, reached_at};
 use crate::positions::Position;
 use crate::warnings::Warning;
-use bib_scan::Text;
+use bib_text::Text;
 use itoa::Buffer;
 use std::alloc::{AllocError, Global};
 use std::marker::Model;

@@ -29,10 +29,9 @@ use crate::reporting::{defined_in, is_own, is_repeated};
 use crate::seen_names::SeenNames;
 use crate::text_findings::{add_own_findings, is_ascii, is_utf8};
 use crate::warnings::Warning;
-use bib_scan::{
-    FieldView, ItemView, Kind, Part, Parts, is_key, only_part, read_value, same_folded,
-};
+use bib_scan::{FieldView, ItemView, Kind, Part, Parts, is_key, only_part, read_value};
 use bib_store::{Database, Paged};
+use bib_text::same_folded;
 use bib_value::MacroTable;
 use std::alloc::{AllocError, Global};
 

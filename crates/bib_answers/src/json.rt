@@ -19,8 +19,8 @@ use crate::lines::add_all;
 use crate::named_files::NamedFiles;
 use crate::opening::answer_file;
 use crate::raw::raw_in;
-use bib_scan::Text;
 use bib_store::{Database, Paged};
+use bib_text::Text;
 use entry_json::{JsonFault, add_line_in};
 use std::alloc::{AllocError, Global};
 

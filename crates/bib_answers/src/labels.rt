@@ -15,8 +15,8 @@ use crate::lines::add_all;
 use crate::opening::answer_file;
 use bib_keys::{LabelRecords, Parents};
 use bib_names::{label_names, labels_of};
-use bib_scan::{Text, copied};
 use bib_store::{Database, Paged};
+use bib_text::{Text, copied};
 use std::alloc::{AllocError, Global};
 
 /// The labels of the entries that the keys cite, of their records at this depth, or that a key finds none.

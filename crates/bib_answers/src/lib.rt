@@ -1,6 +1,6 @@
-//! Knows what the commands that read a file alone, such as `cat`, `check`, `show`, `entry` and `cite`, answer to its bytes; and
-//! how an answer says that a file is not read. It knows no journals and no edits, no readers and no writers. It promises that
-//! output, message and status are a stated function of the file.
+//! What the commands that only read answer to the bytes of one file or of several: `cat`, `check`, `lint`, `show`, `entry`, `cite`,
+//! `labels`, `json`, `names`, `newkeys` and `extract`; and how an answer says that a file is not read. It knows no journals and no
+//! edits, no readers and no writers. It promises that output, message and status are a stated function of these bytes.
 #![tactic(auto)]
 
 mod answers;
@@ -52,7 +52,7 @@ pub use labels::{answer_labels, labels_in};
 pub use lint::{answer_lint, lint_fault, lint_in};
 pub use messages::{fault_name, placed_line, refusal_in};
 pub use named_files::NamedFiles;
-pub use names::{answer_names, names_in};
+pub use names::{answer_names, name_fault_answer, names_in, persons};
 pub use newkeys::{answer_newkeys, newkeys_in};
 pub use opening::open;
 pub use show::{answer_show, show_in};

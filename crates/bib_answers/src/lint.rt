@@ -24,8 +24,9 @@ use crate::positions::{first_known, known_at};
 use crate::seen_names::SeenNames;
 use aux_text::AuxKeys;
 use bib_faults::read_all;
-use bib_scan::{ItemView, Kind, ReadFault, Text, copied};
+use bib_scan::{ItemView, Kind, ReadFault};
 use bib_store::{Database, Paged};
+use bib_text::{Text, copied};
 use bib_words::status;
 use std::alloc::{AllocError, Global};
 

@@ -4,7 +4,8 @@ ghost use Rattle.std.specs.Prelude.{◌≡◌, IfOk, codes};
 ghost use Rattle.bib_answers.specs.Messages.{fault_name, placed_line, no_such_entry_in, refusal_line, refusal_in};
 
 use crate::lines::add_all;
-use bib_scan::{ReadFault, Text};
+use bib_scan::ReadFault;
+use bib_text::Text;
 use std::alloc::{AllocError, Global};
 
 /// The message that no entry has the key.

@@ -12,8 +12,8 @@ use crate::positions::Position;
 use crate::told_keys::ToldKeys;
 use crate::warnings::Warning;
 use aux_text::{AuxKeys, CitedKey};
-use bib_scan::Text;
 use bib_store::{Database, Paged};
+use bib_text::Text;
 use std::alloc::{AllocError, Global};
 
 /// Adds a line for each key that the aux files cite and no entry has, where they cite it first. If the code of these findings is

@@ -8,9 +8,9 @@ ghost use Rattle.bib_shelf.specs.Joined.{located_in};
 
 use crate::positions::{Known, first_known};
 use crate::walking::known_in;
-use bib_scan::Text;
 use bib_shelf::locate;
 use bib_store::{Database, Paged};
+use bib_text::Text;
 use std::marker::Model;
 
 /// Files that are open as one: their names, the database, and where each file begins and ends in its bytes. A contract sees the

@@ -12,8 +12,8 @@ ghost use Rattle.bib_answers.specs.Names.{name_fault_name, name_fault_line, list
 use crate::answers::{Answer, done, no_such_entry, refused};
 use crate::opening::answer_file;
 use bib_names::{Name, NameFault, Template, split_name, split_names, text_in};
-use bib_scan::{Seq, Text};
 use bib_store::{Database, Paged, Record};
+use bib_text::{Seq, Text};
 use std::alloc::{AllocError, Global};
 
 /// The names in the first entry with this key, from its record at this depth, printed by the template that the bytes spell; or
@@ -101,16 +101,16 @@ fn record_answer(
     ensures { IfOk result (λ answer. answer ≡ record_answer template.now rec.now) }
 {
     let Some(template) = template else {
-        return fault_answer(alloc, NameFault::BadTemplate);
+        return name_fault_answer(alloc, NameFault::BadTemplate);
     };
     match record_lines(alloc, template, rec) {
         Ok(lines) => Ok(done(alloc, lines)),
-        Err(fault) => fault_answer(alloc, fault),
+        Err(fault) => name_fault_answer(alloc, fault),
     }
 }
 
 /// The answer whose message says why no name is printed. If memory ran out, there is no answer.
-fn fault_answer(alloc: Global, fault: NameFault) -> Result<Answer, AllocError>
+pub fn name_fault_answer(alloc: Global, fault: NameFault) -> Result<Answer, AllocError>
     ensures { IfOk result (λ answer. (fault ≢ Memory) × (answer ≡ lines_answer (Err fault))) }
 {
     if fault == NameFault::Memory {
@@ -143,7 +143,7 @@ fn record_lines(alloc: Global, template: &Template, rec: &Record) -> Result<Text
 }
 
 /// The authors; or the editors, if there is no author.
-fn persons<'a>(alloc: Global, fields: &'a [(Text, Text)]) -> Result<Seq<&'a [u8]>, NameFault>
+pub fn persons<'a>(alloc: Global, fields: &'a [(Text, Text)]) -> Result<Seq<&'a [u8]>, NameFault>
     ensures names { IfOk result (λ names. persons fields.now ≡ Ok (map (λ n. n.now) names)) }
     ensures fault { IfErr result (λ fault. fault ≢ Memory → persons fields.now ≡ Err fault) }
 {

@@ -10,8 +10,8 @@ use crate::answers::{Answer, done};
 use crate::lines::add_all;
 use crate::opening::answer_file;
 use bib_keys::made_keys;
-use bib_scan::Text;
 use bib_store::{Database, Paged};
+use bib_text::Text;
 use std::alloc::{AllocError, Global};
 
 /// For each entry its key and the key that `regenerate` at this depth would give it. The file stays as it is.

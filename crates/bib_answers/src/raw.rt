@@ -16,8 +16,8 @@ use crate::json::{file_of, key_of, not_utf8};
 use crate::named_files::NamedFiles;
 use crate::standings::{standing_at, standings_of};
 use crate::written::written_fields;
-use bib_scan::Text;
 use bib_store::{Database, Paged};
+use bib_text::Text;
 use entry_json::{JsonFault, RawEntry, Standing, WrittenField, add_raw_line};
 use std::alloc::{AllocError, Global};
 

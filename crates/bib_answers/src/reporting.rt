@@ -20,8 +20,9 @@ use crate::kinds::is_same_kind;
 use crate::lines::add_all;
 use crate::numbered::NumberedItem;
 use crate::seen_names::SeenNames;
-use bib_scan::{ItemView, Kind, Part, Parts, only_part, read_value, same_folded};
+use bib_scan::{ItemView, Kind, Part, Parts, only_part, read_value};
 use bib_store::{Database, Paged};
+use bib_text::same_folded;
 use bib_value::MacroTable;
 use std::alloc::{AllocError, Global};
 

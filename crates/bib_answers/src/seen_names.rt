@@ -7,7 +7,8 @@ ghost use Rattle.bib_spec.specs.Text.{Text, same};
 ghost use Rattle.bib_answers.specs.Recurring.{may_recur, AreTold, names_of};
 
 use crate::name_filter::NameFilter;
-use bib_scan::{ItemView, same_folded};
+use bib_scan::ItemView;
+use bib_text::same_folded;
 use folded_map::FoldedMap;
 use std::alloc::{AllocError, Global};
 

@@ -10,8 +10,8 @@ ghost use Rattle.bib_answers.specs.Show.{head_line, shown_field, record_lines, p
 use crate::answers::{Answer, done, no_such_entry};
 use crate::lines::add_all;
 use crate::opening::answer_file;
-use bib_scan::Text;
 use bib_store::{Database, Paged, Record};
+use bib_text::Text;
 use std::alloc::{AllocError, Global};
 
 /// The first entry with this key, at this depth, or that there is none.

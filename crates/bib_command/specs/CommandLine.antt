@@ -118,17 +118,21 @@ cite_line = with_rule (with_rule (with_rule (cited_line (codes "cite")) (count (
 abbrev pub entry_line : App
 entry_line = with_rule (with_rule (over_file (codes "entry")) needed_keys) (switch (codes "at"))
 
--- as above, `labels F [--depth D] [KEY..]`
+-- as above, `NAME F [--depth D] [KEY..]`
 abbrev pub keys_line : Text → App
 keys_line name = with_rule (cited_line name) levels
+
+-- as above, `labels F [--depth D] [--bibtex] [KEY..]`
+abbrev pub labels_line : App
+labels_line = with_rule (keys_line (codes "labels")) bibtex
 
 -- as above, `json F [--depth D] [--raw] [--bibtex] [KEY..]`
 abbrev pub json_line : App
 json_line = with_rule (with_rule (keys_line (codes "json")) (switch (codes "raw"))) bibtex
 
--- `names F [--before FILE].. [--after FILE].. [--depth D] KEY TEMPLATE`
+-- `names F [--before FILE].. [--after FILE].. [--depth D] [--bibtex] KEY TEMPLATE`
 abbrev pub names_line : App
-names_line = with_rule (with_rule (with_rule (over_files (codes "names")) (needed (codes "KEY"))) (needed (codes "TEMPLATE"))) levels
+names_line = with_rule (with_rule (with_rule (with_rule (over_files (codes "names")) (needed (codes "KEY"))) (needed (codes "TEMPLATE"))) levels) bibtex
 
 -- `newkeys F [--before FILE].. [--after FILE].. [--depth D]`
 abbrev pub newkeys_line : App
@@ -201,7 +205,7 @@ bibkeep_shows =
 
 -- and with those that make labels, JSON, names or keys of it
 abbrev pub bibkeep_makes : App
-bibkeep_makes = adds (adds (adds (adds bibkeep_shows (keys_line (codes "labels"))) json_line) names_line) newkeys_line
+bibkeep_makes = adds (adds (adds (adds bibkeep_shows labels_line) json_line) names_line) newkeys_line
 
 -- and with those that change a file, and those over its journal
 abbrev pub bibkeep_edits : App

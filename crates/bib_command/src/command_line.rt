@@ -3,7 +3,7 @@
 ghost use Rattle.std.specs.Prelude.{◌≡◌, IfOk, codes};
 ghost use Rattle.clap.specs.Words.{App, new_app};
 ghost use Rattle.bib_command.specs.Lines.{Reads};
-ghost use Rattle.bib_command.specs.CommandLine.{adds, over_file, over_files, cat_line, check_line, lint_line, show_line, cited_line, entry_line, cite_line, edit_or_print_line, json_line, keys_line, names_line, newkeys_line, edit_line, insert_line, steps_line, ris_line, import_texts_line, import_line, merge_line, diff_line, explain_line, bibkeep_top, bibkeep_shows, bibkeep_makes, bibkeep_edits, bibkeep};
+ghost use Rattle.bib_command.specs.CommandLine.{adds, over_file, over_files, cat_line, check_line, lint_line, show_line, cited_line, entry_line, cite_line, edit_or_print_line, json_line, keys_line, labels_line, names_line, newkeys_line, edit_line, insert_line, steps_line, ris_line, import_texts_line, import_line, merge_line, diff_line, explain_line, bibkeep_top, bibkeep_shows, bibkeep_makes, bibkeep_edits, bibkeep};
 
 use crate::arguments::{
     any_file, aux_files, bibtex, count, edit_words, files_after, files_before, hints, ignore, keys,
@@ -232,19 +232,25 @@ Examples:
 }
 
 fn labels<'a>(alloc: Global) -> Result<Command<'a>, AllocError>
-    ensures { IfOk result (Reads (keys_line (codes "labels"))) }
+    ensures { IfOk result (Reads labels_line) }
 {
     over_keys(
         alloc,
         "labels",
         "Prints a short label, such as Knu84, for each entry that these keys cite",
         "\
-Each line is a label, a tab and the entry's key. A label is made of names and year; equal labels get letters.
+Each line is a label, a tab and the entry's key. A label is made of names and year; equal labels get letters. With --bibtex
+the labels are those that the style alpha of BibTeX 0.99d makes, byte for byte, in the order of its bibliography.
 
 Examples:
   bibkeep labels refs.bib knuth86 lamport86
-  bibkeep labels refs.bib '*'   # every entry",
-    )
+  bibkeep labels refs.bib '*'   # every entry
+  bibkeep labels refs.bib --bibtex '*'",
+    )?
+    .arg(bibtex(
+        alloc,
+        "Prints the labels of the style alpha of BibTeX 0.99d; not with --depth, --before or --after",
+    ))
 }
 
 fn json<'a>(alloc: Global) -> Result<Command<'a>, AllocError>
@@ -285,15 +291,21 @@ fn names<'a>(alloc: Global) -> Result<Command<'a>, AllocError>
         "Prints an entry's authors, or its editors if it has none, by a template",
         "\
 A template is text and groups in braces. Each group prints a part of the name: f (first), v (von), l (last) or j (jr). One
-letter prints initials, two print the words.
+letter prints initials, two print the words. With --bibtex the names are printed as a style of BibTeX 0.99d prints them, byte
+for byte.
 
 Examples:
   bibkeep names refs.bib knuth86 '{ff }{vv~}{ll}{, jj}'
-  bibkeep names refs.bib knuth86 '{vv~}{ll}{, jj}{, f.}'",
+  bibkeep names refs.bib knuth86 '{vv~}{ll}{, jj}{, f.}'
+  bibkeep names refs.bib knuth86 --bibtex '{f.~}{vv~}{ll}{, jj}'",
     )?
     .arg(needed(alloc, "KEY", "The entry's key"))?
     .arg(needed(alloc, "TEMPLATE", "How a name is printed"))?
-    .arg(levels(alloc))
+    .arg(levels(alloc))?
+    .arg(bibtex(
+        alloc,
+        "Prints the names as BibTeX 0.99d prints them; not with --depth, --before or --after",
+    ))
 }
 
 fn newkeys<'a>(alloc: Global) -> Result<Command<'a>, AllocError>
@@ -354,6 +366,8 @@ by tabs (shown here as spaces):
   regenerate [DEPTH]                     makes a key of names and year for every entry, and updates the crossrefs
   group LABEL                            begins a step: one undo takes back the edits up to its end
   end                                    ends the step
+KEY,2 is the second of several entries with the key, also in before:KEY,2. FIELD,2 is the second of several fields, in set and
+drop, and NAME,2 the second of several definitions, in set-macro and undefine.
 Arguments make one edit, so group and end are for standard input only. Put -- before words that begin with a hyphen.
 The first refused line stops the script; the edits before it are kept, unless --all-or-nothing is given. `bibkeep undo F`
 takes back the last edit or step, `bibkeep undo F --steps N` the last N; after --no-journal nothing can be taken back.
@@ -362,6 +376,7 @@ Examples:
   bibkeep edit refs.bib set knuth86 year 1986
   bibkeep edit refs.bib set knuth86 note '{50\\% of \\TeX}'
   bibkeep edit refs.bib --print rename-key type86 type | diff -u refs.bib -
+  bibkeep edit refs.bib remove knuth86,2
   printf 'set\\tknuth86\\tnote\\t{x}\\ndrop\\tknuth86\\tpages\\n' | bibkeep edit refs.bib",
     )?
     .arg(edit_words(alloc))?

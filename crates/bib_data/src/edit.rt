@@ -15,7 +15,8 @@ pub struct NewEntry {
 }
 
 /// An edit of a database. A key names the first entry that has it, folded; `place` is an item's position among the items,
-/// from 0.
+/// from 0. The key of an entry that is there, a field's name and the name of a macro to set or remove may end with a comma
+/// and a number from 1: `t,2` is the second of that name in file order.
 #[derive(Debug, Drop)]
 pub enum Edit {
     /// Sets the field of this entry to this value; if the entry has no such field, it is added after the last field.

@@ -8,8 +8,9 @@ ghost use Rattle.diff_spec.specs.Agreement.{FilesAgree};
 ghost use Rattle.bib_diff.specs.Agreeing.{HaveAlike, HaveAllAlike, SameAt, ShowTheSame, AreTheSame};
 
 use crate::texts::{Texts, texts_at};
-use bib_scan::{Fields, ItemView, Text, same_folded};
+use bib_scan::{Fields, ItemView};
 use bib_store::{Database, Paged};
+use bib_text::{Text, same_folded};
 use std::alloc::{AllocError, Global};
 
 /// Whether both texts are there and the same, or none is.

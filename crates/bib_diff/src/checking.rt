@@ -12,8 +12,8 @@ use crate::looking::entry;
 use crate::trying::lost;
 use bib_data::{Edit, Request};
 use bib_journal::{Performed, Session, SessionFault, perform};
-use bib_scan::Seq;
 use bib_store::{Database, Paged};
+use bib_text::Seq;
 use std::alloc::Global;
 
 /// Whether the edit does not make keys at a depth that there is not.

@@ -7,7 +7,8 @@ ghost use Rattle.diff_spec.specs.Agreement.{FilesAgree};
 ghost use Rattle.bib_diff.specs.Faults.{fault_number};
 ghost use Rattle.bib_diff.specs.Leading.{RefusesDiff};
 
-use bib_scan::{ReadFault, Text};
+use bib_scan::ReadFault;
+use bib_text::Text;
 use std::alloc::{AllocError, AllocFailed};
 
 /// Why no edits are given that lead from an old file to a new one.

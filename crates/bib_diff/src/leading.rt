@@ -15,8 +15,9 @@ use crate::fault::{DiffFault, Stop, fault_of};
 use crate::searching::search;
 use bib_data::Request;
 use bib_journal::{Session, SessionFault};
-use bib_scan::{ReadFault, Seq};
+use bib_scan::ReadFault;
 use bib_store::{Database, Paged};
+use bib_text::Seq;
 use std::alloc::Global;
 
 /// A session of the old file.

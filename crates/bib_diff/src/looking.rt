@@ -1,8 +1,9 @@
 //! What the search looks up in an open file. A number that the file does not have finds nothing.
 
 use crate::texts::{Texts, texts_at};
-use bib_scan::{ItemView, NAME_LIMIT, Text, copied};
+use bib_scan::ItemView;
 use bib_store::{Database, MacrosAt, Paged};
+use bib_text::{NAME_LIMIT, Text, copied};
 use std::alloc::{AllocError, Global};
 
 /// Entry `n`.

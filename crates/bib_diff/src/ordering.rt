@@ -6,8 +6,8 @@ use crate::looking::{entry, find, item_number, key_at, macros_at, texts};
 use crate::trying::Trial;
 use crate::values::written;
 use bib_data::{Edit, NewEntry};
-use bib_scan::{Seq, Text, copied};
 use bib_store::{Database, Paged};
+use bib_text::{Seq, Text, copied};
 use std::alloc::{AllocError, Global};
 
 /// The numbers in the old file of the entries of the new file, in the order of the new file.

@@ -4,8 +4,8 @@ use crate::fault::Stop;
 use crate::looking::{entry, find, key_at, parent, referrer};
 use crate::trying::Trial;
 use bib_data::Edit;
-use bib_scan::{Text, copied, same_folded};
 use bib_store::{Database, Paged};
+use bib_text::{Text, copied, same_folded};
 use folded_map::FoldedMap;
 use std::alloc::{AllocError, Global};
 
@@ -58,7 +58,7 @@ fn numbers(alloc: Global, keys: &[Text]) -> Result<FoldedMap<usize>, AllocError>
     let mut numbers = FoldedMap::new(alloc);
     for n in 0..keys.len() {
         let key = keys[n].as_slice();
-        if key.len() <= bib_scan::NAME_LIMIT {
+        if key.len() <= bib_text::NAME_LIMIT {
             numbers.insert(key, n)?;
         }
     }

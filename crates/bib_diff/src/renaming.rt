@@ -5,8 +5,8 @@ use crate::looking::{entry, find, key_at};
 use crate::signing::signature;
 use crate::trying::Trial;
 use bib_data::Edit;
-use bib_scan::{Text, copied};
 use bib_store::{Database, Paged};
+use bib_text::{Text, copied};
 use std::alloc::{AllocError, Global};
 use std::collections::HashMap;
 

@@ -6,8 +6,9 @@ use crate::texts::Texts;
 use crate::trying::Trial;
 use crate::values::written;
 use bib_data::Edit;
-use bib_scan::{Fields, Text, copied, same_folded};
+use bib_scan::Fields;
 use bib_store::{Database, MacrosAt, Paged};
+use bib_text::{Text, copied, same_folded};
 use std::alloc::{AllocError, Global};
 
 /// A change of a field: its name, and its value if it is set and does not go.

@@ -2,8 +2,9 @@
 
 use crate::looking::{entry, texts};
 use crate::texts::Texts;
-use bib_scan::{Fields, same_folded};
+use bib_scan::Fields;
 use bib_store::{Database, Paged};
+use bib_text::same_folded;
 use std::alloc::{AllocError, Global};
 
 /// A line for the field of this name and text.

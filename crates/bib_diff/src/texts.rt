@@ -10,8 +10,9 @@ ghost use Rattle.bib_store.specs.Readings.{OfReading, IsEntryNumber};
 ghost use Rattle.bib_diff.specs.Texts.{IsWithText, HaveShortNames, AreTextsOfRows, AreTextsOfEntry};
 
 use crate::values::value_text;
-use bib_scan::{Fields, Text};
+use bib_scan::Fields;
 use bib_store::{Database, MacrosAt, Paged};
+use bib_text::Text;
 use folded_map::FoldedMap;
 use std::alloc::{AllocError, Global};
 

@@ -5,8 +5,8 @@ ghost use Rattle.bib_data.specs.Depths.{HasDepth};
 use crate::fault::Stop;
 use bib_data::{Edit, Request};
 use bib_journal::{Session, SessionFault};
-use bib_scan::{Text, copied};
 use bib_store::{Database, Paged};
+use bib_text::{Text, copied};
 use std::alloc::Global;
 
 /// A session, and the edits that it accepted.

@@ -4,7 +4,8 @@ ghost use Rattle.std.specs.Prelude.{◌≡◌, IfOk, IfSome};
 ghost use Rattle.bib_spec.specs.Texts.{raw_text, field_text};
 ghost use Rattle.bib_value.specs.Raw.{OfValue};
 
-use bib_scan::{Seq, Text, copied, only_part, read_value};
+use bib_scan::{only_part, read_value};
+use bib_text::{Seq, Text, copied};
 use bib_value::{MacroTable, ValueFault, field_text, part_text, raw_text};
 use std::alloc::{AllocError, Global};
 

@@ -1,5 +1,5 @@
 -- Why defining a macro is refused, and that it is not; and the one piece that it is.
-use Rattle.bib_edit.proofs.Words.{◌≡◌, ℕ, zero, suc, ◌+◌, ◌<◌, ◌≤◌, true, List, [], ◌∷◌, ◌++◌, codes, length, take, drop, refl, sym, ◌∙◌, ap, subst, arith, append_assoc, append-nil, zero-add, le_of_suc-le-suc, not-suc-le-zero, true≢false, All-nil, All-cons, All-head, name_limit, equals_sign, Text, is_name, Value, Tree, DefinitionTree}
+use Rattle.bib_edit.proofs.Words.{◌≡◌, ℕ, zero, suc, ◌+◌, ◌<◌, ◌≤◌, true, false, List, [], ◌∷◌, ◌++◌, codes, length, take, drop, refl, sym, ◌∙◌, ap, subst, arith, append_assoc, append-nil, zero-add, le_of_suc-le-suc, not-suc-le-zero, true≢false, All-nil, All-cons, All-head, name_limit, equals_sign, Text, is_name, Value, Tree, DefinitionTree}
 use Rattle.bib_edit.proofs.Words.{tree_bytes, value_bytes, IsValue, IsValueWithin, Item, Reading, Reads, bytes_of, item_bytes, IsOpenable, BadKey, BadName, BadValue, BadPosition, NotFound, Ambiguous, KeyInUse, NameInUse, Referred, WouldMerge, FileTooLong, TextTooLong, Fit, file_limit, olds_len, definitions, in_line, IsAccepted, IsFirstRefusal, pieces_of, Spells}
 use Rattle.bib_edit.proofs.Words.{Piece, Kept, Replaced, pieces_from, pieces_of_chunks, kept_item, kept_items, start_of, body_at, trail_at, OfReading, made_base, months, IsAllowedEdit, ArePiecesOf, IsRefusal}
 use Rattle.edit_spec.specs.Edits.{DefineMacro, line_end, definition_as, definitions_end, define_macro}
@@ -78,6 +78,10 @@ module _ (db : Reading) (name : Text) (v : Value) (named : is_name name ≡ true
 -- ---- as it is asked for
 
 module _ (file name value : Text) where
+  pub refused-name : is_name name ≡ false → IsRefusal file (asked.DefineMacro name value) fault.BadName
+  refused-name none db reads = of-define_macro name value (λ e. IsFirstRefusal made_base db e BadName)
+      (λ v s. is_first BadName (sym (and_name (is_name name)) ∙ none) (more BadKey (λ h. true≢false h) no_reason))
+
   module _ (named : is_name name ≡ true) where
     pub refused-value : (IsValueWithin name_limit value → ⊥) → IsRefusal file (asked.DefineMacro name value) fault.BadValue
     refused-value none db reads = of-define_macro name value (λ e. IsFirstRefusal made_base db e BadValue)

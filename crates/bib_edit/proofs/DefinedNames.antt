@@ -9,7 +9,7 @@ definition_item d trail = record { tree = DefinitionTree d; trail = trail }
 abbrev whole : Tree → Text → Item
 whole tree trail = record { tree = tree; trail = trail }
 
-defining : (name : Text) (item : Item) → defines name item.tree ≡ true → (d : Definition) × (item ≡ definition_item d item.trail) × (same d.assignment.name name ≡ true)
+pub defining : (name : Text) (item : Item) → defines name item.tree ≡ true → (d : Definition) × (item ≡ definition_item d item.trail) × (same d.assignment.name name ≡ true)
 defining name item h = of_tree item.tree item.trail h
   where
     of_tree : (tree : Tree) (trail : Text) → defines name tree ≡ true → (d : Definition) × (whole tree trail ≡ definition_item d trail) × (same d.assignment.name name ≡ true)

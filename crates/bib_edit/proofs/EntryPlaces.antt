@@ -1,5 +1,5 @@
 -- How many items are before the first entry that a key names.
-use Rattle.bib_edit.proofs.Words.{◌≡◌, ℕ, zero, suc, Bool, false, List, [], ◌∷◌, Option, Some, None, option_map, length, ⊎_elim, refl, sym, ◌∙◌, ap, cases_Bool, cond-true, cond-false, none-some, Text, Tree, CommentTree, DefinitionTree, PreambleTree, EntryTree, Item, Reading, Macros, months, macros_after, gathered, entry_in, entries_of}
+use Rattle.bib_edit.proofs.Words.{◌≡◌, ◌≤◌, arith, ℕ, zero, suc, Bool, false, List, [], ◌∷◌, Option, Some, None, option_map, length, ⊎_elim, refl, sym, ◌∙◌, ap, cases_Bool, cond-true, cond-false, none-some, Text, Tree, CommentTree, DefinitionTree, PreambleTree, EntryTree, Item, Reading, Macros, months, macros_after, gathered, entry_in, entries_of}
 use Rattle.bib_edit.proofs.Words.{keys_of, is_named, first_named, entry_named, is_entry, item_named, IsFirstAt}
 use Rattle.edit_spec.specs.OtherLaws.{number_of_first}
 use Rattle.bib_edit.specs.Positions.{items_before}
@@ -13,6 +13,17 @@ before-first test (item ∷ items) (suc n) f = cond-false (test item.tree) 0 (su
 -- the item that the key names
 pub before-named : (key : Text) (db : Reading) (n : ℕ) → item_named key db ≡ Some n → items_before key db.items ≡ n
 before-named key db n named = before-first (is_entry key) db.items n (first-at (is_entry key) db.items n named)
+
+-- the number of the first that passes a test is no more than the count
+pub before-within : (test : Tree → Bool) (items : List Item) → number_of_first test items ≤ length items
+before-within test [] = omega arith
+before-within test (item ∷ items) = ⊎_elim
+    (λ t. let e = cond-true (test item.tree) 0 (suc (number_of_first test items)) t in omega (arith, e))
+    (λ f.
+    let e = cond-false (test item.tree) 0 (suc (number_of_first test items)) f in
+    let rest = before-within test items in
+    omega (arith, e, rest))
+    (cases_Bool (test item.tree))
 
 -- ---- a key that names none
 

@@ -1,9 +1,10 @@
 -- Why the inlining of a macro is refused, and that it is not.
-use Rattle.bib_edit.proofs.Words.{◌≡◌, ℕ, ◌+◌, ◌<◌, ◌≤◌, true, List, ◌∷◌, length, drop, refl, sym, ◌∙◌, ap, arith, true≢false, both_ways, All-nil, name_limit, file_limit, Text, is_name, IsValue, Reading, Reads, months, Opens, InlineMacro, BadKey, BadName, BadValue, BadPosition, NotFound}
+use Rattle.bib_edit.proofs.Words.{◌≡◌, ℕ, ◌+◌, ◌<◌, ◌≤◌, true, false, List, ◌∷◌, length, drop, refl, sym, ◌∙◌, ap, arith, true≢false, both_ways, All-nil, name_limit, file_limit, Text, is_name, IsValue, Reading, Reads, months, Opens, InlineMacro, BadKey, BadName, BadValue, BadPosition, NotFound}
 use Rattle.bib_edit.proofs.Words.{Ambiguous, KeyInUse, NameInUse, Referred, WouldMerge, FileTooLong, TextTooLong, definitions, uses, text_of_macro, inline_macro, IsAccepted, IsFirstRefusal, pieces_of, start_of, OfReading, made_base, IsRefusal, IsDefinedAt, IsDefinitionFault, none_defines}
 use Rattle.bib_edit.proofs.Words.{many_define, braced, items_placed, tokens_of, replaced, JoinsCleanly, removal_of, Piece, olds_len, news_len}
 use Rattle.bib_data.specs.declared.edit.Edit.TheVariants as asked
 use Rattle.bib_edit.specs.declared.fault.EditFault.{EditFault as Fault}
+use Rattle.bib_edit.specs.declared.fault.EditFault.TheVariants as fault
 use Rattle.bib_edit.proofs.PieceLengths.{makes-long, makes-short}
 use Rattle.bib_edit.proofs.MacroPieces.{inlined-pieces}
 use Rattle.bib_edit.proofs.InlinedTexts.{long-inlined}
@@ -52,6 +53,9 @@ module _ (name : Text) (db : Reading) where
               (more FileTooLong (makes-short (InlineMacro name) file db opens.reads ps are short) passes_clean))
 
 -- ---- as it is asked for
+
+pub refused-name : (name file : Text) → is_name name ≡ false → IsRefusal file (asked.InlineMacro name) fault.BadName
+refused-name name file none db reads = of-inline_macro name (λ e. IsFirstRefusal made_base db e BadName) (is_first BadName (sym (and_name (is_name name)) ∙ none) (passes_keys name db))
 
 pub refused-definition : (name file : Text) → is_name name ≡ true → (fault : Fault) → IsDefinitionFault file name fault → IsRefusal file (asked.InlineMacro name) fault
 refused-definition name file named fault (none_defines h) = λ db reads. of-inline_macro name (λ e. IsFirstRefusal made_base db e NotFound) (inline-missing name db named (h db reads))

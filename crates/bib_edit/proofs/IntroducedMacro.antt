@@ -17,6 +17,9 @@ module _ (name text : Text) (db : Reading) where
   passes_keys : Passes made_base db (IntroduceMacro name text) 1
   passes_keys = more BadKey (λ h. true≢false h) no_reason
 
+  pub introduce-unnamed : is_name name ≡ false → IsFirstRefusal made_base db (IntroduceMacro name text) BadName
+  introduce-unnamed none = is_first BadName (sym (and_name (is_name name)) ∙ none) passes_keys
+
   module _ (named : is_name name ≡ true) where
     passes_name : Passes made_base db (IntroduceMacro name text) 2
     passes_name = more BadName (λ h. true≢false (sym named ∙ and_name (is_name name) ∙ h)) passes_keys

@@ -21,3 +21,5 @@ has_key_base (edits.UndefineMacro name) = tt
 has_key_base (edits.RenameField from to key) = tt
 has_key_base (edits.DefineMacro name value) = tt
 has_key_base (edits.SetMacro name value) = tt
+has_key_base (edits.ChangeEntry key change) = tt
+has_key_base (edits.ChangeDefinition name k change) = tt

@@ -82,4 +82,29 @@ pub mod InsertedTexts
 pub mod Inserted
 -- ---- positions
 pub mod EntryPlaces
+pub mod MeantPlaces
 pub mod EntryNeighbours
+-- ---- one of several
+pub mod ChosenEdits
+pub mod ChosenPlans
+pub mod NthWalks
+pub mod MeantItems
+pub mod MeantTexts
+pub mod MeantParents
+pub mod RemovedOne
+pub mod MeantFields
+pub mod LaterRows
+pub mod SetOne
+pub mod DroppedOne
+-- ---- one of several: keys and places
+pub mod PlannedPieces
+pub mod FirstNumbers
+pub mod LaterKeys
+pub mod RekeyedOne
+pub mod MovedOne
+pub mod MeantDefinitions
+pub mod UnusedDefinitions
+pub mod UndefinedOne
+pub mod SetOneMacro
+pub mod TypedOne
+pub mod RenamedOne

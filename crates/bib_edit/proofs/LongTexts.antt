@@ -121,11 +121,11 @@ short-entry db n e trail at short = short_entry months db.items n e trail at (sy
 -- ---- one row changed
 
 module _ (m : Macros) where
-  abbrev rows_long : List Row → Bool
+  abbrev pub rows_long : List Row → Bool
   rows_long rows = list_any is_long (map (raw_text m) (map (λ row. row.assignment.value) rows))
 
   module _ (name : Text) (value : Value) where
-    set_long : (before : Text) (rows : List Row) → rows_long rows ≡ false → rows_long (with_field name value before rows).1 ≡ is_long (raw_text m value)
+    pub set_long : (before : Text) (rows : List Row) → rows_long rows ≡ false → rows_long (with_field name value before rows).1 ≡ is_long (raw_text m value)
     set_long before [] short = or-false (is_long (raw_text m value))
     set_long before (row ∷ rows) short =
         let rest = with_field name value row.assignment.space_after rows in
@@ -141,7 +141,7 @@ module _ (m : Macros) where
     long-set e short = set_long e.space_after_key e.rows short
 
   module _ (name : Text) where
-    dropped_long : (before : Text) (rows : List Row) → rows_long rows ≡ false → rows_long (without_field name before rows).1 ≡ false
+    pub dropped_long : (before : Text) (rows : List Row) → rows_long rows ≡ false → rows_long (without_field name before rows).1 ≡ false
     dropped_long before [] short = refl
     dropped_long before (row ∷ rows) short =
         let rest = without_field name row.assignment.space_after rows in

@@ -1,4 +1,5 @@
 -- Why giving a macro a value is refused, and that it is not; and the one piece that it is.
+use Rattle.std.proofs.Common.{false}
 use Rattle.bib_edit.proofs.Words.{◌≡◌, ℕ, suc, ◌+◌, ◌≤◌, true, List, [], ◌∷◌, length, sym, ◌∙◌, ap, arith, true≢false, All-nil, All-cons, All-head, name_limit, Text, is_name, Value, Definition, DefinitionTree, value_bytes, IsValue, IsValueWithin, Item, Reading, Reads, bytes_of, IsOpenable}
 use Rattle.bib_edit.proofs.Words.{BadKey, BadName, BadValue, BadPosition, NotFound, Ambiguous, KeyInUse, NameInUse, Referred, WouldMerge, FileTooLong, TextTooLong, Fit, file_limit, olds_len, definitions, defines, IsAccepted, IsFirstRefusal, pieces_of, Spells, Piece, Chunk, pieces_from, chunks_from_first, start_of}
 use Rattle.bib_edit.proofs.Words.{OfReading, made_base, months, subst, same_Some, IsDefinedAt, IsDefinitionAt, IsDefinitionNumber, IsDefinitionFault, none_defines, many_define, IsAllowedEdit, ArePiecesOf, IsRefusal}
@@ -19,6 +20,7 @@ use Rattle.bib_edit.proofs.UnusedValues.{set-short}
 use Rattle.bib_edit.proofs.FoundItems.{defined-at, defined-within}
 use Rattle.bib_edit.proofs.LongTexts.{too_long-any}
 use Rattle.bib_edit.proofs.OpenFiles.{none-long}
+use Rattle.bib_edit.specs.Numbers.{is_numbered}
 use Rattle.bib_edit.proofs.AskedEdits.{some_value, of-set_macro}
 use Rattle.bib_edit.proofs.GivenNames.{and_name}
 use Rattle.bib_edit.proofs.Ranks.{Passes, no_reason, more, is_first}
@@ -70,16 +72,20 @@ module _ (db : Reading) (name : Text) (v : Value) (named : is_name name ≡ true
 
 -- ---- as it is asked for
 
-module _ (file name value : Text) (named : is_name name ≡ true) where
+pub refused-name : (file name value : Text) → is_numbered name ≡ false → is_name name ≡ false → IsRefusal file (asked.SetMacro name value) fault.BadName
+refused-name file name value plain none db reads = of-set_macro name value plain (λ e. IsFirstRefusal made_base db e BadName)
+    (λ v s. is_first BadName (sym (and_name (is_name name)) ∙ none) (more BadKey (λ h. true≢false h) no_reason))
+
+module _ (file name value : Text) (plain : is_numbered name ≡ false) (named : is_name name ≡ true) where
   pub refused-value : (IsValueWithin name_limit value → ⊥) → IsRefusal file (asked.SetMacro name value) fault.BadValue
-  refused-value none db reads = of-set_macro name value (λ e. IsFirstRefusal made_base db e BadValue)
+  refused-value none db reads = of-set_macro name value plain (λ e. IsFirstRefusal made_base db e BadValue)
       (λ v s. is_first BadValue (λ all. none (v, All-head (IsValue name_limit) v [] all, s.bytes)) (passes_name db name v named))
 
   module _ (valued : IsValueWithin name_limit value) where
     pub refused-definition : (reason : Fault) → IsDefinitionFault file name reason → IsRefusal file (asked.SetMacro name value) reason
-    refused-definition reason (none_defines none) = λ db reads. of-set_macro name value (λ e. IsFirstRefusal made_base db e NotFound)
+    refused-definition reason (none_defines none) = λ db reads. of-set_macro name value plain (λ e. IsFirstRefusal made_base db e NotFound)
         (λ v s. is_first NotFound (none db reads) (passes_given db name v named (s.value valued)))
-    refused-definition reason (many_define many) = λ db reads. of-set_macro name value (λ e. IsFirstRefusal made_base db e Ambiguous)
+    refused-definition reason (many_define many) = λ db reads. of-set_macro name value plain (λ e. IsFirstRefusal made_base db e Ambiguous)
         (λ v s. let some = many db reads in is_first Ambiguous some (passes_there db name v named (s.value valued) (λ none. omega (arith, none, some))))
 
     module _ (n : ℕ) (lone : OfReading file (λ db. IsDefinedAt name db n)) where
@@ -98,7 +104,7 @@ module _ (file name value : Text) (named : is_name name ≡ true) where
         reading db reads v s = set_macro-reads file db name v reads (s.value valued)
 
         pub pieces-set_macro : ArePiecesOf file (asked.SetMacro name value) ps
-        pieces-set_macro db reads = of-set_macro name value (λ e. ps ≡ pieces_of made_base db e) (are db reads)
+        pieces-set_macro db reads = of-set_macro name value plain (λ e. ps ≡ pieces_of made_base db e) (are db reads)
 
         -- whatever value the bytes spell
         spelled : (v : Value) × Spells value v
@@ -122,12 +128,12 @@ module _ (file name value : Text) (named : is_name name ≡ true) where
             (too_long-any (set_macro name v db) ∙ set-short name v months db.items n (defined-at name db n (lone db reads)) stay.unused stay.text (none-long file db is.1)) short
 
         pub refused-lengths : (reason : Fault) → IsLengthFault ps file reason → IsRefusal file (asked.SetMacro name value) reason
-        refused-lengths reason (long_file over) = λ db reads. of-set_macro name value (λ e. IsFirstRefusal made_base db e FileTooLong)
+        refused-lengths reason (long_file over) = λ db reads. of-set_macro name value plain (λ e. IsFirstRefusal made_base db e FileTooLong)
             (λ v s. tried-refused (SetMacro name v) file db reads (reading db reads v s) ps (are db reads v s) (passes_found db name v named (s.value valued) (lone db reads).once) fault.FileTooLong (long_file over))
-        refused-lengths reason (long_text short not) = λ db reads. of-set_macro name value (λ e. IsFirstRefusal made_base db e TextTooLong)
+        refused-lengths reason (long_text short not) = λ db reads. of-set_macro name value plain (λ e. IsFirstRefusal made_base db e TextTooLong)
             (λ v s. tried-refused (SetMacro name v) file db reads (reading db reads v s) ps (are db reads v s) (passes_found db name v named (s.value valued) (lone db reads).once) fault.TextTooLong (long_text short not))
         refused-lengths reason no_memory = tt
 
         pub allowed-set_macro : MakeOpenFile ps file → IsAllowedEdit file (asked.SetMacro name value)
-        allowed-set_macro made_file db reads = of-set_macro name value (λ e. IsAccepted made_base db e)
+        allowed-set_macro made_file db reads = of-set_macro name value plain (λ e. IsAccepted made_base db e)
             (λ v s. tried-accepted (SetMacro name v) file db reads (reading db reads v s) ps (are db reads v s) (passes_found db name v named (s.value valued) (lone db reads).once) made_file)

@@ -12,6 +12,7 @@ use Rattle.bib_edit.proofs.LongTexts.{any_long, too_long-any}
 use Rattle.bib_edit.proofs.PlacedTexts.{is_long_in, removed-short, inserted-long}
 use Rattle.bib_edit.proofs.MovedPieces.{first-item, move-pieces}
 use Rattle.bib_edit.proofs.MovedTexts.{macros-next_item, entry-long, entry-is}
+use Rattle.bib_edit.specs.Numbers.{is_numbered}
 use Rattle.bib_edit.proofs.AskedEdits.{of-move_entry}
 use Rattle.bib_edit.proofs.Ranks.{Passes, no_reason, more, is_first, all_clear}
 
@@ -109,6 +110,6 @@ module _ (key : Text) (position : ℕ) (db : Reading) where
 
 -- ---- as it is asked for
 
-pub refused_address : (key file : Text) (position : ℕ) (fault : Fault) → OfReading file (λ db. position ≤ last_position db (MoveEntry key position)) → IsHolderFault file key fault → IsRefusal file (asked.MoveEntry key position) fault
-refused_address key file position fault low (none_holds h) = λ db reads. of-move_entry key position (λ e. IsFirstRefusal made_base db e NotFound) (move-missing key position db (low db reads) (h db reads))
-refused_address key file position fault low (many_hold h) = λ db reads. of-move_entry key position (λ e. IsFirstRefusal made_base db e Ambiguous) (move-ambiguous key position db (low db reads) (h db reads))
+pub refused_address : (key file : Text) → is_numbered key ≡ false → (position : ℕ) (fault : Fault) → OfReading file (λ db. position ≤ last_position db (MoveEntry key position)) → IsHolderFault file key fault → IsRefusal file (asked.MoveEntry key position) fault
+refused_address key file plain position fault low (none_holds h) = λ db reads. of-move_entry key position plain (λ e. IsFirstRefusal made_base db e NotFound) (move-missing key position db (low db reads) (h db reads))
+refused_address key file plain position fault low (many_hold h) = λ db reads. of-move_entry key position plain (λ e. IsFirstRefusal made_base db e Ambiguous) (move-ambiguous key position db (low db reads) (h db reads))

@@ -1,8 +1,10 @@
 -- What a moved entry says where it then stands.
 use Rattle.bib_edit.proofs.Words.{◌≡◌, ℕ, zero, suc, ◌+◌, ◌<◌, ◌≤◌, nat_lt, Bool, true, false, ◌||◌, List, [], ◌∷◌, ◌++◌, map, ⊎_elim, inr, refl, sym, ◌∙◌, ap, ap₂, subst, arith, All, le_of_suc-le-suc, not-suc-le-zero, or-true, list_any, cases_Bool, cond-true, cond-false, false≢true, ltb-true}
 use Rattle.bib_edit.proofs.Words.{ltb-false, All-head, All-tail, name_limit, Text, Row, Entry, Tree, CommentTree, DefinitionTree, PreambleTree, EntryTree, IsTree, IsRow, row_bytes, Item, Reading, Macros, months, macros_at, macros_after, raw_text, is_entry, without_first, Field, fields_after}
-use Rattle.bib_edit.proofs.Words.{fields_of, IsFirstAt, IsLong, next_item, FieldsHaveValues, IsFieldLong}
+use Rattle.bib_edit.proofs.Words.{slice_get, Some, none-some, same_Some, fields_of, IsFirstAt, IsLong, next_item, FieldsHaveValues, IsFieldLong}
+use Rattle.edit_spec.specs.Edits.{without_item}
 use Rattle.bib_edit.proofs.LongTexts.{is_long}
+use Rattle.bib_edit.proofs.MovedPieces.{first-item}
 use Rattle.bib_edit.proofs.PlacedTexts.{is_long_in}
 
 -- ---- macros
@@ -13,43 +15,50 @@ entry_defines_none key m (CommentTree c) h = absurd (false≢true h)
 entry_defines_none key m (DefinitionTree d) h = absurd (false≢true h)
 entry_defines_none key m (PreambleTree p) h = absurd (false≢true h)
 
+-- item n, which is an entry, is taken out
 module _ (key : Text) where
+  macros_before : (m : Macros) (front : Text) (items : List Item) (n place : ℕ) → place < n → macros_at m (without_item n front items).items place ≡ macros_at m items place
+  macros_before m front [] n place lt = refl
+  macros_before m front (item ∷ items) zero place lt = absurd (not-suc-le-zero lt)
+  macros_before m front (item ∷ items) (suc n) zero lt = refl
+  macros_before m front (item ∷ items) (suc n) (suc place) lt = macros_before (macros_after m item.tree) item.trail items n place (le_of_suc-le-suc lt)
+
+  macros_beyond : (m : Macros) (front : Text) (items : List Item) (n place : ℕ) (it : Item) → slice_get items n ≡ Some it → is_entry key it.tree ≡ true → n ≤ place →
+      macros_at m (without_item n front items).items place ≡ macros_at m items (suc place)
+  macros_beyond m front [] n place it at is le = absurd (none-some it at)
+  macros_beyond m front (item ∷ items) zero place it at is le =
+      ap (λ (a : Macros). macros_at a items place) (sym (entry_defines_none key m item.tree (ap (λ (i : Item). is_entry key i.tree) (same_Some item it at) ∙ is)))
+  macros_beyond m front (item ∷ items) (suc n) zero it at is le = absurd (not-suc-le-zero le)
+  macros_beyond m front (item ∷ items) (suc n) (suc place) it at is le = macros_beyond (macros_after m item.tree) item.trail items n place it at is (le_of_suc-le-suc le)
+
+  -- the macros before the place among what remains
+  pub macros-next_item_at : (m : Macros) (front : Text) (items : List Item) (n place : ℕ) (it : Item) → slice_get items n ≡ Some it → is_entry key it.tree ≡ true →
+      macros_at m (without_item n front items).items place ≡ macros_at m items (next_item n place)
+  macros-next_item_at m front items n place it at is = ⊎_elim
+      (λ t. macros_before m front items n place (ltb-true place n t) ∙ ap (macros_at m items) (sym (cond-true (nat_lt place n) place (place + 1) t)))
+      (λ t. macros_beyond m front items n place it at is (ltb-false place n t)
+      ∙ (let more : suc place ≡ place + 1 = omega arith in ap (macros_at m items) (more ∙ sym (cond-false (nat_lt place n) place (place + 1) t))))
+      (cases_Bool (nat_lt place n))
+
+-- the first that passes a test is taken out
+module _ (test : Tree → Bool) where
   abbrev gone : Text → Item → List Item → Reading
   gone front item items = record { front = front ++ item.trail; items = items }
 
-  abbrev stays : Text → Item → List Item → Reading
-  stays front item items =
-      let rest = without_first (is_entry key) item.trail items in
-      record { front = front; items = record item { trail = rest.front } ∷ rest.items }
+  abbrev stays : Text → Item → Reading → Reading
+  stays front item rest = record { front = front; items = record item { trail = rest.front } ∷ rest.items }
 
-  macros_before : (m : Macros) (front : Text) (items : List Item) (n place : ℕ) → IsFirstAt (is_entry key) items n → place < n →
-      macros_at m (without_first (is_entry key) front items).items place ≡ macros_at m items place
-  macros_before m front [] n place f lt = absurd f
-  macros_before m front (item ∷ items) zero place f lt = absurd (not-suc-le-zero lt)
-  macros_before m front (item ∷ items) (suc n) zero f lt = refl
-  macros_before m front (item ∷ items) (suc n) (suc place) f lt =
-      ap (λ (db : Reading). macros_at m db.items (suc place)) (cond-false (is_entry key item.tree) (gone front item items) (stays front item items) f.0)
-      ∙ macros_before (macros_after m item.tree) item.trail items n place f.1 (le_of_suc-le-suc lt)
+  without-first : (front : Text) (items : List Item) (n : ℕ) → IsFirstAt test items n → without_first test front items ≡ without_item n front items
+  without-first front [] n f = absurd f
+  without-first front (item ∷ items) zero f = cond-true (test item.tree) (gone front item items) (stays front item (without_first test item.trail items)) f
+  without-first front (item ∷ items) (suc n) f =
+      cond-false (test item.tree) (gone front item items) (stays front item (without_first test item.trail items)) f.0 ∙ ap (stays front item) (without-first item.trail items n f.1)
 
-  macros_beyond : (m : Macros) (front : Text) (items : List Item) (n place : ℕ) → IsFirstAt (is_entry key) items n → n ≤ place →
-      macros_at m (without_first (is_entry key) front items).items place ≡ macros_at m items (suc place)
-  macros_beyond m front [] n place f le = absurd f
-  macros_beyond m front (item ∷ items) zero place f le =
-      ap (λ (db : Reading). macros_at m db.items place) (cond-true (is_entry key item.tree) (gone front item items) (stays front item items) f)
-      ∙ ap (λ (a : Macros). macros_at a items place) (sym (entry_defines_none key m item.tree f))
-  macros_beyond m front (item ∷ items) (suc n) zero f le = absurd (not-suc-le-zero le)
-  macros_beyond m front (item ∷ items) (suc n) (suc place) f le =
-      ap (λ (db : Reading). macros_at m db.items (suc place)) (cond-false (is_entry key item.tree) (gone front item items) (stays front item items) f.0)
-      ∙ macros_beyond (macros_after m item.tree) item.trail items n place f.1 (le_of_suc-le-suc le)
-
-  -- the macros before the place among what remains
-  pub macros-next_item : (m : Macros) (front : Text) (items : List Item) (n place : ℕ) → IsFirstAt (is_entry key) items n →
-      macros_at m (without_first (is_entry key) front items).items place ≡ macros_at m items (next_item n place)
-  macros-next_item m front items n place f = ⊎_elim
-      (λ t. macros_before m front items n place f (ltb-true place n t) ∙ ap (macros_at m items) (sym (cond-true (nat_lt place n) place (place + 1) t)))
-      (λ t. macros_beyond m front items n place f (ltb-false place n t)
-      ∙ (let more : suc place ≡ place + 1 = omega arith in ap (macros_at m items) (more ∙ sym (cond-false (nat_lt place n) place (place + 1) t))))
-      (cases_Bool (nat_lt place n))
+pub macros-next_item : (key : Text) (m : Macros) (front : Text) (items : List Item) (n place : ℕ) → IsFirstAt (is_entry key) items n →
+    macros_at m (without_first (is_entry key) front items).items place ≡ macros_at m items (next_item n place)
+macros-next_item key m front items n place f =
+    let it = first-item (is_entry key) items n f in
+    ap (λ (db : Reading). macros_at m db.items place) (without-first (is_entry key) front items n f) ∙ macros-next_item_at key m front items n place it.0 it.2 it.3
 
 -- ---- fields that are seen
 

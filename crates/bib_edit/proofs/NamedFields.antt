@@ -11,7 +11,7 @@ use Rattle.bib_edit.specs.RenamedFields.{entry_fields, own_fields, has_either, f
 
 -- ---- rows as fields, and as they are seen
 
-any-fields : (name : Text) (m : Macros) (before : Text) (rows : List Row) → list_any (is_field name) (fields_after before rows) ≡ list_any (has_name name) (map (field_of m) rows)
+pub any-fields : (name : Text) (m : Macros) (before : Text) (rows : List Row) → list_any (is_field name) (fields_after before rows) ≡ list_any (has_name name) (map (field_of m) rows)
 any-fields name m before [] = refl
 any-fields name m before (row ∷ rows) = ap (λ b. same row.assignment.name name || b) (any-fields name m (before ++ row_bytes row) rows)
 
@@ -103,7 +103,7 @@ module _ (from : Text) where
   some-append [] ys = refl
   some-append (x ∷ xs) ys = lt-ltb 0 (length (x ∷ (xs ++ ys))) (omega arith) ∙ sym (ap (λ b. b || nat_lt 0 (length ys)) (lt-ltb 0 (length (x ∷ xs)) (omega arith)))
 
-  some-names : (start : ℕ) (fields : List Field) → nat_lt 0 (length (names_at start from fields)) ≡ list_any (is_field from) fields
+  pub some-names : (start : ℕ) (fields : List Field) → nat_lt 0 (length (names_at start from fields)) ≡ list_any (is_field from) fields
   some-names start [] = refl
   some-names start (field ∷ fields) =
       ap (λ (l : List (ℕ × Text)). nat_lt 0 (length l)) (names-cons start field fields)

@@ -1,4 +1,5 @@
 -- Why a removal is refused, and that it is not.
+use Rattle.std.proofs.Common.{false, true}
 use Rattle.bib_edit.proofs.Words.{◌≡◌, ℕ, ◌<◌, [], ◌∷◌, refl, sym, ◌∙◌, arith, true≢false, both_ways, All-nil, name_limit, Text, IsValue, Reading, months, Opens, entries_of, RemoveEntry, BadKey, BadName, BadValue, BadPosition, NotFound, Ambiguous, KeyInUse, NameInUse, Referred, WouldMerge}
 use Rattle.bib_edit.proofs.Words.{FileTooLong, TextTooLong, holders, is_entry, remove_entry, IsReferred, IsAccepted, IsFirstRefusal, pieces_of, made_base, IsRefusal, IsHeldAt, IsHolderFault, none_holds, many_hold, JoinsCleanly, removal_of}
 use Rattle.bib_data.specs.declared.edit.Edit.TheVariants as asked
@@ -10,6 +11,7 @@ use Rattle.bib_edit.proofs.OpenFiles.{none-long}
 use Rattle.bib_edit.proofs.JoinedTexts.{joins-clean, clean-joins}
 use Rattle.bib_edit.proofs.LongTexts.{any_long, too_long-any}
 use Rattle.bib_edit.proofs.PlacedTexts.{removed-short}
+use Rattle.bib_edit.specs.Numbers.{is_numbered}
 use Rattle.bib_edit.proofs.AskedEdits.{of-remove_entry}
 use Rattle.bib_edit.proofs.Ranks.{Passes, no_reason, more, is_first, all_clear}
 
@@ -49,6 +51,6 @@ module _ (key : Text) (db : Reading) where
 
 -- ---- as it is asked for
 
-pub refused_address : (key file : Text) (fault : Fault) → IsHolderFault file key fault → IsRefusal file (asked.RemoveEntry key) fault
-refused_address key file fault (none_holds h) = λ db reads. of-remove_entry key (λ e. IsFirstRefusal made_base db e NotFound) (remove-missing key db (h db reads))
-refused_address key file fault (many_hold h) = λ db reads. of-remove_entry key (λ e. IsFirstRefusal made_base db e Ambiguous) (remove-ambiguous key db (h db reads))
+pub refused_address : (key file : Text) → is_numbered key ≡ false → (fault : Fault) → IsHolderFault file key fault → IsRefusal file (asked.RemoveEntry key) fault
+refused_address key file plain fault (none_holds h) = λ db reads. of-remove_entry key plain (λ e. IsFirstRefusal made_base db e NotFound) (remove-missing key db (h db reads))
+refused_address key file plain fault (many_hold h) = λ db reads. of-remove_entry key plain (λ e. IsFirstRefusal made_base db e Ambiguous) (remove-ambiguous key db (h db reads))

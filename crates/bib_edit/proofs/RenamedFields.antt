@@ -16,6 +16,7 @@ use Rattle.bib_edit.proofs.SettingPieces.{item_at, fields-seen}
 use Rattle.bib_edit.proofs.PieceLengths.{makes-long, makes-short, goes-within}
 use Rattle.bib_edit.proofs.LongTexts.{is_long, any_long, too_long-any}
 use Rattle.bib_edit.proofs.OpenFiles.{opens-as, none-long}
+use Rattle.bib_edit.specs.Numbers.{is_numbered, has_number}
 use Rattle.bib_edit.proofs.AskedEdits.{of-rename_field}
 use Rattle.bib_edit.proofs.GivenNames.{and_names}
 use Rattle.bib_edit.proofs.Ranks.{Passes, no_reason, more, is_first, all_clear}
@@ -27,7 +28,7 @@ module _ (from to : Text) where
   values-kept [] = refl
   values-kept (row ∷ rows) = ap (λ values. row.assignment.value ∷ values) (values-kept rows)
 
-  long-tree : (m : Macros) (tree : Tree) → list_any is_long (raw_texts_in m (of_entry (entry_renamed from to) tree)) ≡ list_any is_long (raw_texts_in m tree)
+  pub long-tree : (m : Macros) (tree : Tree) → list_any is_long (raw_texts_in m (of_entry (entry_renamed from to) tree)) ≡ list_any is_long (raw_texts_in m tree)
   long-tree m (CommentTree h) = refl
   long-tree m (DefinitionTree d) = refl
   long-tree m (PreambleTree p) = refl
@@ -114,30 +115,30 @@ module _ (from to : Text) (key : Option Text) (db : Reading) where
 
 -- ---- as it is asked for
 
-module _ (file from to : Text) (key : Option Text) where
+module _ (file from to : Text) (key : Option Text) (plain : has_number key ≡ false) where
   pub refused-names : are_renamable from to ≡ false → IsRefusal file (asked.RenameField from to key) fault.BadName
-  refused-names bad db reads = of-rename_field from to key (λ e. IsFirstRefusal made_base db e BadName) (renaming-names from to key db bad)
+  refused-names bad db reads = of-rename_field from to key plain (λ e. IsFirstRefusal made_base db e BadName) (renaming-names from to key db bad)
 
   module _ (named : are_renamable from to ≡ true) (names : List (ℕ × Text)) (is_ambiguous : Bool) (found : OfReading file (λ db. AreFound from to key db names is_ambiguous)) where
     pub refused-renaming : (reason : Fault) → IsRenamingFault file to names is_ambiguous reason → IsRefusal file (asked.RenameField from to key) reason
-    refused-renaming reason (none_found none) = λ db reads. of-rename_field from to key (λ e. IsFirstRefusal made_base db e NotFound) (renaming-missing from to key db named ((found db reads).missing none))
-    refused-renaming reason (two_meant some two) = λ db reads. of-rename_field from to key (λ e. IsFirstRefusal made_base db e Ambiguous) (renaming-ambiguous from to key db named names is_ambiguous (found db reads) some two)
-    refused-renaming reason (too_long some alone over) = λ db reads. of-rename_field from to key (λ e. IsFirstRefusal made_base db e FileTooLong) (renaming-long_file from to key db named names is_ambiguous (found db reads) some alone file reads over)
+    refused-renaming reason (none_found none) = λ db reads. of-rename_field from to key plain (λ e. IsFirstRefusal made_base db e NotFound) (renaming-missing from to key db named ((found db reads).missing none))
+    refused-renaming reason (two_meant some two) = λ db reads. of-rename_field from to key plain (λ e. IsFirstRefusal made_base db e Ambiguous) (renaming-ambiguous from to key db named names is_ambiguous (found db reads) some two)
+    refused-renaming reason (too_long some alone over) = λ db reads. of-rename_field from to key plain (λ e. IsFirstRefusal made_base db e FileTooLong) (renaming-long_file from to key db named names is_ambiguous (found db reads) some alone file reads over)
     refused-renaming reason no_memory = tt
 
     pub allowed-renaming : IsOpenable file → AreReplaceable file to names is_ambiguous → IsAllowedEdit file (asked.RenameField from to key)
-    allowed-renaming is are db reads = of-rename_field from to key (λ e. IsAccepted made_base db e)
+    allowed-renaming is are db reads = of-rename_field from to key plain (λ e. IsAccepted made_base db e)
         (renaming-accepted from to key db named names is_ambiguous (found db reads) are.some are.alone file reads (opens-as file db (one_reading name_limit) is reads) are.short)
 
     pub pieces-renaming : ArePiecesOf file (asked.RenameField from to key) (replaced to names)
-    pieces-renaming db reads = of-rename_field from to key (λ e. replaced to names ≡ pieces_of made_base db e) (found db reads).pieces
+    pieces-renaming db reads = of-rename_field from to key plain (λ e. replaced to names ≡ pieces_of made_base db e) (found db reads).pieces
 
     pub within-renaming : IsOpenable file → olds_len (replaced to names) ≤ length file
     within-renaming is = goes-within (RenameField from to key) file is.0 is.1.reads (replaced to names) (found is.0 is.1.reads).pieces
 
 -- no entry has the key
-pub refused-key : (file from to key : Text) → are_renamable from to ≡ true → OfReading file (λ db. None ≡ entry_named (entries_of db) key) → IsRefusal file (asked.RenameField from to (Some key)) fault.NotFound
-refused-key file from to key named none db reads = of-rename_field from to (Some key) (λ e. IsFirstRefusal made_base db e NotFound)
+pub refused-key : (file from to key : Text) → is_numbered key ≡ false → are_renamable from to ≡ true → OfReading file (λ db. None ≡ entry_named (entries_of db) key) → IsRefusal file (asked.RenameField from to (Some key)) fault.NotFound
+refused-key file from to key plain named none db reads = of-rename_field from to (Some key) plain (λ e. IsFirstRefusal made_base db e NotFound)
     (renaming-missing from to (Some key) db named
     (ap (λ o. option_map_or (λ entry. count_by (has_name from) entry.fields) (option_and_then (slice_get (entries_of db)) o) 0) (sym (none db reads))))
 

@@ -6,7 +6,8 @@ use Rattle.edit_spec.specs.Edits as edits
 use Rattle.bib_edit.specs.Dangling.{is_in_use}
 use Rattle.bib_data.specs.declared.edit.Edit.{Edit}
 use Rattle.bib_edit.specs.declared.fault.EditFault.{EditFault}
-use Rattle.bib_edit.specs.declared.fault.EditFault.TheVariants.{KeyInUse}
+use Rattle.bib_edit.specs.declared.fault.EditFault.TheVariants.{BadKey, KeyInUse}
+use Rattle.bib_edit.specs.Numbers.{is_numbered}
 use Rattle.bib_edit.proofs.AskedEdits.{of-rename_key}
 use Rattle.bib_edit.proofs.PieceLengths.{makes-long, makes-short}
 use Rattle.bib_edit.proofs.Ranks.{Passes, no_reason, more, is_first, all_clear}
@@ -71,19 +72,22 @@ module _ (db : Reading) (from to : Text) where
 
 -- ---- refusals
 
-module _ (file from to : Text) where
+module _ (file from to : Text) (plain : is_numbered from ≡ false) where
   abbrev asked : Edit
   asked = RenameKey from to
 
+  pub refused-key : is_new_key to ≡ false → IsRefusal file asked BadKey
+  refused-key none db reads = of-rename_key from to plain _ (is_first edits.BadKey (ap (λ b. b && true) none) no_reason)
+
   module _ (is : is_new_key to ≡ true) where
     pub refused-holders : (fault : EditFault) → IsHolderFault file from fault → IsRefusal file asked fault
-    refused-holders fault (none_holds none) = λ db reads. of-rename_key from to _ (is_first edits.NotFound (none db reads) (clear_found db from to is))
-    refused-holders fault (many_hold many) = λ db reads. of-rename_key from to _ (let some = many db reads in
+    refused-holders fault (none_holds none) = λ db reads. of-rename_key from to plain _ (is_first edits.NotFound (none db reads) (clear_found db from to is))
+    refused-holders fault (many_hold many) = λ db reads. of-rename_key from to plain _ (let some = many db reads in
         is_first edits.Ambiguous some (clear_holders db from to is (λ none. omega (arith, none, some))))
 
     module _ (n : ℕ) (lone : OfReading file (λ db. IsLoneNumber from db n)) where
       pub refused-use : OfReading file (λ db. is_in_use from to (entries_of db) ≡ true) → IsRefusal file asked KeyInUse
-      refused-use used db reads = of-rename_key from to _
+      refused-use used db reads = of-rename_key from to plain _
           (is_first edits.KeyInUse (used db reads) (clear_use db from to is (lone db reads).once))
 
       module _ (free : OfReading file (λ db. is_in_use from to (entries_of db) ≡ false)) (new : NewKeys) (first : new.first ≡ n) (keys : new.keys ≡ to ∷ []) where

@@ -6,6 +6,7 @@ use Rattle.edit_spec.proofs.MacroLaws.{all_free}
 use Rattle.bib_edit.proofs.DefinedNames.{first-definition}
 use Rattle.bib_data.specs.declared.edit.Edit.TheVariants as asked
 use Rattle.bib_edit.specs.declared.fault.EditFault.{EditFault as Fault}
+use Rattle.bib_edit.specs.declared.fault.EditFault.TheVariants as fault
 use Rattle.bib_edit.proofs.PieceLengths.{makes-long, makes-short}
 use Rattle.bib_edit.proofs.MacroPieces.{renamed-pieces}
 use Rattle.bib_edit.proofs.MacroTexts.{long-renamed}
@@ -54,6 +55,9 @@ module _ (from to : Text) (db : Reading) where
               (more FileTooLong (makes-short (RenameMacro from to) file db opens.reads ps are short) passes_unused))
 
 -- ---- as it is asked for
+
+pub refused-name : (from to file : Text) → (is_name from && is_name to) ≡ false → IsRefusal file (asked.RenameMacro from to) fault.BadName
+refused-name from to file none db reads = of-rename_macro from to (λ e. IsFirstRefusal made_base db e BadName) (is_first BadName (sym (and_names (is_name from) (is_name to)) ∙ none) (passes_keys from to db))
 
 pub refused-definition : (from to file : Text) → (is_name from && is_name to) ≡ true → (fault : Fault) → IsDefinitionFault file from fault → IsRefusal file (asked.RenameMacro from to) fault
 refused-definition from to file named fault (none_defines h) = λ db reads. of-rename_macro from to (λ e. IsFirstRefusal made_base db e NotFound) (rename-missing from to db named (h db reads))

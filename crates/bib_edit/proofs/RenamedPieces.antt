@@ -102,13 +102,18 @@ module _ (from to : Text) where
       ap (λ k. pieces (names_in k from db.items)) (let z : start_of db 0 ≡ 0 + length db.front = omega arith in z)
       ∙ sym (pieces-items (0 + length db.front) db.items)
 
+  -- the pieces of an entry that begins at this place
+  pub renamed-entry : (start : ℕ) (e : Entry) (trail : Text) →
+      pieces_from start (names_replaced from to e) ≡ replaced to (names_at start from (own_fields (view_of (record { tree = EntryTree e; trail = trail }))))
+  renamed-entry start e trail =
+      let item : Item = record { tree = EntryTree e; trail = trail } in
+      sym (pieces-before_items start (names_replaced from to e) trail [])
+      ∙ ap (λ (l : List Chunk). pieces_from start l) (sym (append-nil (names_replaced from to e ++ Kept trail ∷ [])))
+      ∙ pieces-item start item []
+      ∙ append-nil (pieces (names_at start from (own_fields (view_of item))))
+
   -- the pieces of the edit in the entry that the key names
   pub renamed-one : (base : Record → Text) (db : Reading) (key : Text) (n : ℕ) (e : Entry) (trail : Text) → item_named key db ≡ Some n → slice_get db.items n ≡ Some (record { tree = EntryTree e; trail = trail }) →
       replaced to (names_at (start_of db n) from (own_fields (view_of (record { tree = EntryTree e; trail = trail })))) ≡ pieces_of base db (RenameField from to (Some key))
   renamed-one base db key n e trail named at =
-      let item : Item = record { tree = EntryTree e; trail = trail } in
-      sym (pieces-entry_as (names_replaced from to) db key n e trail named at
-      ∙ sym (pieces-before_items (start_of db n) (names_replaced from to e) trail [])
-      ∙ ap (λ (l : List Chunk). pieces_from (start_of db n) l) (sym (append-nil (names_replaced from to e ++ Kept trail ∷ [])))
-      ∙ pieces-item (start_of db n) item []
-      ∙ append-nil (pieces (names_at (start_of db n) from (own_fields (view_of item)))))
+      sym (pieces-entry_as (names_replaced from to) db key n e trail named at ∙ renamed-entry (start_of db n) e trail)

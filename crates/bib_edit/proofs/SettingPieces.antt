@@ -37,7 +37,7 @@ module _ (name : Text) (value : Value) (start : ℕ) where
   passed before row rows = Kept before ∷ Kept (row_start row) ∷ Kept (value_bytes row.assignment.value) ∷ field_set name value row.assignment.space_after rows
 
   -- the rows stand after the text `pre`, and white space before them
-  pieces-set : (pre before : Text) (rows : List Row) → pieces_from (start + length pre) (field_set name value before rows) ≡ setting (length pre) (fields_after (pre ++ before) rows) ∷ []
+  pub pieces-set : (pre before : Text) (rows : List Row) → pieces_from (start + length pre) (field_set name value before rows) ≡ setting (length pre) (fields_after (pre ++ before) rows) ∷ []
   pieces-set pre before [] = ap (λ t. record { place = start + length pre; old = []; new = t } ∷ []) (new_start name (value_bytes value))
   pieces-set pre before (row ∷ rows) =
       let text : Text = pre ++ before in

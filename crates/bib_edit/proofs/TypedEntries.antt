@@ -1,7 +1,7 @@
 -- When giving an entry another type is refused, and for which reason; and the one piece that it is.
 use Rattle.bib_edit.proofs.Words.{◌≡◌, ℕ, ◌+◌, ◌<◌, ◌≤◌, ◌==◌, ◌||◌, ◌&&◌, not, nat_le, nat_lt, true, false, List, [], ◌∷◌, ◌++◌, Some, is_some, slice_get, length, list_all, ⊎_elim, true≢false, refl, sym, ◌∙◌, ap, ap₂, arith, append_assoc, All, All-nil, All-cons, All-head, All-tail, and_parts, or_from, or-true, both_ways, cases_Bool, leb-true, ltb-true, ne_eqb, false≢true}
-use Rattle.bib_edit.proofs.Words.{name_limit, file_limit, Text, is_name, does_not_begin_with, IsValue, Item, Reading, Reads, Opens, IsOpenable, Entry, EntryTree, IsItem, tree_bytes, Record, Piece, pieces_of, IsAccepted, IsFirstRefusal, holders, is_type, View, view_of, start_of, OfReading, length-append, too_long_at, item-ends}
-use Rattle.bib_edit.proofs.Words.{made_base, IsAllowedEdit, ArePiecesOf, IsRefusal, IsHeldAt, IsHolderFault, none_holds, many_hold, IsNamedItem, OfItem, item_named, olds_len, news_len, one_reading}
+use Rattle.bib_edit.proofs.Words.{name_limit, file_limit, Text, is_name, does_not_begin_with, IsValue, Item, Reading, Reads, Opens, IsOpenable, Entry, EntryTree, IsItem, tree_bytes, Record, Piece, pieces_of, IsAccepted, IsFirstRefusal, holders, is_type, View, view_of, start_of, OfReading, length-append, too_long_at, item-ends, slice_get-within}
+use Rattle.bib_edit.proofs.Words.{made_base, IsAllowedEdit, ArePiecesOf, IsRefusal, IsHeldAt, IsHolderFault, none_holds, many_hold, OfItem, item_named, olds_len, news_len, one_reading}
 use Rattle.std.proofs.lemmas.Bool.{leb-false, not-true}
 use Rattle.std.specs.List.{prefix_len}
 use Rattle.bib_spec.specs.Bytes.{at_sign, space, tab, line_feed, carriage_return}
@@ -9,6 +9,7 @@ use Rattle.bib_spec.specs.Text.{is_type_byte, is_type_name}
 unfoldable use Rattle.bib_spec.specs.Text.{is_space, is_name_byte, is_name_within}
 use Rattle.bib_spec.specs.Tree.{IsEntry, open_byte, after_key_bytes}
 use Rattle.bib_scan.proofs.RunLaws.{run_len}
+use Rattle.bib_store.specs.Readings.{IsItemNumber}
 use Rattle.bib_store.proofs.KeptItems.{item_in}
 use Rattle.edit_spec.specs.Edits as edits
 use Rattle.edit_spec.specs.Edits.{entry_with_type}
@@ -24,6 +25,7 @@ use Rattle.bib_edit.proofs.PieceLengths.{makes-long, makes-short}
 use Rattle.bib_edit.proofs.SettingPieces.{item_at, pieces-entry_as}
 use Rattle.bib_edit.proofs.LongTexts.{too_long-changed, short-entry}
 use Rattle.bib_edit.proofs.OpenFiles.{opens-as}
+use Rattle.bib_edit.specs.Numbers.{is_numbered}
 use Rattle.bib_edit.proofs.AskedEdits.{of-set_type}
 
 -- ---- the reasons in their order
@@ -93,7 +95,7 @@ body_regroup : (a s t b o k y : Text) → (((a ++ (s ++ t)) ++ b) ++ o) ++ k ++ 
 body_regroup a s t b o k y = simp append_assoc
 
 -- the type stands behind the at-sign and the white space after it
-place-of_type : (e : Entry) → IsEntry name_limit e → type_place (tree_bytes (EntryTree e)) ≡ length (at_sign ∷ e.opening.head.space_before_type)
+pub place-of_type : (e : Entry) → IsEntry name_limit e → type_place (tree_bytes (EntryTree e)) ≡ length (at_sign ∷ e.opening.head.space_before_type)
 place-of_type e is =
     let head : Text = at_sign ∷ e.opening.head.space_before_type in
     let rest : Text = e.opening.space_before_delimiter ++ ((open_byte e.opening.delimiter ∷ e.opening.space_after) ++ (e.key ++ after_key_bytes e)) in
@@ -112,22 +114,22 @@ typed-one_piece base db key kind_name n e trail is named at =
     pieces-entry_as (type_replaced kind_name) db key n e trail named at
     ∙ ap (λ (place : ℕ). record { place = start_of db n + place; old = e.opening.head.type_name; new = kind_name } ∷ []) (sym (place-of_type e is))
 
--- the entry that the key names, as one of the grammar
-entry-in : (file : Text) (db : Reading) (n : ℕ) (e : Entry) (trail : Text) → Reads file db → slice_get db.items n ≡ Some (item_at (EntryTree e) trail) → IsEntry name_limit e
+-- item n, which is an entry, as one of the grammar
+pub entry-in : (file : Text) (db : Reading) (n : ℕ) (e : Entry) (trail : Text) → Reads file db → slice_get db.items n ≡ Some (item_at (EntryTree e) trail) → IsEntry name_limit e
 entry-in file db n e trail reads at = (item_in (IsItem name_limit) db.items n (item_at (EntryTree e) trail) reads.items at).tree
 
 -- what is seen of item n is in the file
-pub type-within : (file : Text) (n start : ℕ) (view : View) → IsNamedItem file n → IsOpenable file → OfReading file (λ db. start ≡ start_of db n) →
+pub type-within : (file : Text) (n start : ℕ) (view : View) → IsItemNumber file n → IsOpenable file → OfReading file (λ db. start ≡ start_of db n) →
     OfReading file (λ db. (i : Item) → slice_get db.items n ≡ Some i → view ≡ view_of i) → start + length view.body ≤ file_limit
-type-within file n start view named is here seen =
+type-within file n start view within is here seen =
     let db = is.0 in
     let reads = is.1.reads in
-    let entry = named-entry named.0 db n (named.1 db reads) in
-    let item : Item = item_at (EntryTree entry.entry) entry.trail in
-    let ends = item-ends file db n item reads entry.at in
+    let it = slice_get-within db.items n (within db reads) in
+    let item : Item = it.0 in
+    let ends = item-ends file db n item reads it.1 in
     let short = is.1.short in
     let long = length-append (tree_bytes item.tree) item.trail in
-    let body = ap (λ (v : View). length v.body) (seen db reads item entry.at) in
+    let body = ap (λ (v : View). length v.body) (seen db reads item it.1) in
     let place = here db reads in
     omega (arith, ends, short, long, body, place)
 
@@ -142,19 +144,19 @@ typing-is file n start place view kind_name old new body here seen at body_is o 
 
 -- ---- refusals
 
-module _ (file key kind_name : Text) where
+module _ (file key kind_name : Text) (plain : is_numbered key ≡ false) where
   abbrev asked : Edit
   asked = SetType key kind_name
 
   pub refused-name : is_type kind_name ≡ false → IsRefusal file asked BadName
-  refused-name none db reads = of-set_type key kind_name (λ e. IsFirstRefusal made_base db e edits.BadName) (refused_name db key kind_name none)
+  refused-name none db reads = of-set_type key kind_name plain (λ e. IsFirstRefusal made_base db e edits.BadName) (refused_name db key kind_name none)
 
   -- what is known once the type is one
   module _ (named : is_type kind_name ≡ true) where
     pub refused-key : (fault : EditFault) → IsHolderFault file key fault → IsRefusal file asked fault
-    refused-key fault (none_holds none) = λ db reads. of-set_type key kind_name (λ e. IsFirstRefusal made_base db e edits.NotFound)
+    refused-key fault (none_holds none) = λ db reads. of-set_type key kind_name plain (λ e. IsFirstRefusal made_base db e edits.NotFound)
         (is_first edits.NotFound (none db reads) (clear_name db key kind_name named))
-    refused-key fault (many_hold many) = λ db reads. of-set_type key kind_name (λ e. IsFirstRefusal made_base db e edits.Ambiguous)
+    refused-key fault (many_hold many) = λ db reads. of-set_type key kind_name plain (λ e. IsFirstRefusal made_base db e edits.Ambiguous)
         (let some = many db reads in is_first edits.Ambiguous some (more edits.NotFound (λ none. omega (arith, none, some)) (clear_name db key kind_name named)))
 
     -- and that the key is one entry's, and this list is the piece alone
@@ -167,10 +169,10 @@ module _ (file key kind_name : Text) where
           ∙ sym (typed-one_piece made_base db key kind_name n entry.entry entry.trail (entry-in file db n entry.entry entry.trail reads entry.at) lone.item entry.at)
 
       pub pieces-set_type : ArePiecesOf file asked ps
-      pieces-set_type db reads = of-set_type key kind_name (λ e. ps ≡ pieces_of made_base db e) (are db reads)
+      pieces-set_type db reads = of-set_type key kind_name plain (λ e. ps ≡ pieces_of made_base db e) (are db reads)
 
       pub refused-file : file_limit + olds_len ps < length file + news_len ps → IsRefusal file asked FileTooLong
-      refused-file over db reads = of-set_type key kind_name (λ e. IsFirstRefusal made_base db e edits.FileTooLong)
+      refused-file over db reads = of-set_type key kind_name plain (λ e. IsFirstRefusal made_base db e edits.FileTooLong)
           (is_first edits.FileTooLong (makes-long (edits.SetType key kind_name) file db reads ps (are db reads) over) (clear_file db key kind_name named (held db reads).once))
 
       -- no raw text of the entry changes
@@ -184,6 +186,6 @@ module _ (file key kind_name : Text) where
       pub allowed-set_type : length file + news_len ps ≤ file_limit + olds_len ps → IsOpenable file → IsAllowedEdit file asked
       allowed-set_type short is db reads =
           let opens = opens-as file db (one_reading name_limit) is reads in
-          of-set_type key kind_name (λ e. IsAccepted made_base db e)
+          of-set_type key kind_name plain (λ e. IsAccepted made_base db e)
           (all_clear (more edits.TextTooLong (λ h. false≢true (sym (no-longer db opens) ∙ h))
           (more edits.FileTooLong (makes-short (edits.SetType key kind_name) file db reads ps (are db reads) short) (clear_file db key kind_name named (held db reads).once))))

@@ -5,6 +5,7 @@ use Rattle.edit_spec.specs.Edits.{UndefineMacro, is_seen, undefine_macro}
 use Rattle.edit_spec.proofs.UndefineMacro.{unseen-left}
 use Rattle.bib_data.specs.declared.edit.Edit.TheVariants as asked
 use Rattle.bib_edit.specs.declared.fault.EditFault.{EditFault as Fault}
+use Rattle.bib_edit.specs.declared.fault.EditFault.TheVariants.{BadName as BadNameFault}
 use Rattle.bib_edit.proofs.PiecePlaces.{removal-pieces}
 use Rattle.bib_edit.proofs.FoundItems.{defined-at}
 use Rattle.bib_edit.proofs.PieceLengths.{makes-no-longer}
@@ -12,6 +13,7 @@ use Rattle.bib_edit.proofs.OpenFiles.{none-long}
 use Rattle.bib_edit.proofs.JoinedTexts.{joins-clean, clean-joins}
 use Rattle.bib_edit.proofs.LongTexts.{any_long, too_long-any}
 use Rattle.bib_edit.proofs.InlinedTexts.{long-inlined}
+use Rattle.bib_edit.specs.Numbers.{is_numbered}
 use Rattle.bib_edit.proofs.AskedEdits.{of-undefine_macro}
 use Rattle.bib_edit.proofs.GivenNames.{and_name}
 use Rattle.bib_edit.proofs.Ranks.{Passes, no_reason, more, is_first, all_clear}
@@ -69,6 +71,9 @@ module _ (name : Text) (db : Reading) (named : is_name name ≡ true) where
 
 -- ---- as it is asked for
 
-pub refused-undefining : (name file : Text) → is_name name ≡ true → (fault : Fault) → IsDefinitionFault file name fault → IsRefusal file (asked.UndefineMacro name) fault
-refused-undefining name file named fault (none_defines h) = λ db reads. of-undefine_macro name (λ e. IsFirstRefusal made_base db e NotFound) (undefine-missing name db named (h db reads))
-refused-undefining name file named fault (many_define h) = λ db reads. of-undefine_macro name (λ e. IsFirstRefusal made_base db e Ambiguous) (undefine-ambiguous name db named (h db reads))
+pub refused-name : (name file : Text) → is_numbered name ≡ false → is_name name ≡ false → IsRefusal file (asked.UndefineMacro name) BadNameFault
+refused-name name file plain none db reads = of-undefine_macro name plain (λ e. IsFirstRefusal made_base db e BadName) (is_first BadName (sym (and_name (is_name name)) ∙ none) (more BadKey (λ h. true≢false h) no_reason))
+
+pub refused-undefining : (name file : Text) → is_numbered name ≡ false → is_name name ≡ true → (fault : Fault) → IsDefinitionFault file name fault → IsRefusal file (asked.UndefineMacro name) fault
+refused-undefining name file plain named fault (none_defines h) = λ db reads. of-undefine_macro name plain (λ e. IsFirstRefusal made_base db e NotFound) (undefine-missing name db named (h db reads))
+refused-undefining name file plain named fault (many_define h) = λ db reads. of-undefine_macro name plain (λ e. IsFirstRefusal made_base db e Ambiguous) (undefine-ambiguous name db named (h db reads))

@@ -18,14 +18,14 @@ module _ (names : List Text) where
       let both = or_parts (list_any (is_use_of names) (parts_of v)) (list_any (λ v. list_any (is_use_of names) (parts_of v)) values) h in
       ap₂ ◌∷◌ (value-alike names m n agree v both.0) (values-alike m n agree values both.1)
 
-  texts-alike : (m n : Macros) → AgreeBut names m n → (tree : Tree) → any_part (is_use_of names) tree ≡ false → raw_texts_in n tree ≡ raw_texts_in m tree
+  pub texts-alike : (m n : Macros) → AgreeBut names m n → (tree : Tree) → any_part (is_use_of names) tree ≡ false → raw_texts_in n tree ≡ raw_texts_in m tree
   texts-alike m n agree (CommentTree c) h = refl
   texts-alike m n agree (DefinitionTree d) h =
       values-alike (updated m d.assignment.name None) (updated n d.assignment.name None) (updated-agree names m n d.assignment.name None agree) (d.assignment.value ∷ []) h
   texts-alike m n agree (PreambleTree p) h = values-alike m n agree (p.value ∷ []) h
   texts-alike m n agree (EntryTree e) h = values-alike m n agree (map (λ row. row.assignment.value) e.rows) h
 
-  long-alike : (m n : Macros) → AgreeBut names m n → (items : List Item) → have_part (is_use_of names) items ≡ false → any_long n items ≡ any_long m items
+  pub long-alike : (m n : Macros) → AgreeBut names m n → (items : List Item) → have_part (is_use_of names) items ≡ false → any_long n items ≡ any_long m items
   long-alike m n agree [] h = refl
   long-alike m n agree (item ∷ items) h =
       let both = or_parts (any_part (is_use_of names) item.tree) (have_part (is_use_of names) items) h in
@@ -36,7 +36,7 @@ module _ (names : List Text) where
 
 module _ (name : Text) (v : Value) where
   -- what the value says, where these macros stand before it
-  abbrev said : Macros → Text
+  abbrev pub said : Macros → Text
   said m = raw_text (updated m name None) v
 
   abbrev AreUnused : List Item → Type 0
@@ -76,7 +76,7 @@ module _ (name : Text) (v : Value) where
   abbrev set_item : Item → Item
   set_item item = record item { tree = definition_to v item.tree }
 
-  valued-short : (m : Macros) (tree : Tree) (items : List Item) → defines name tree ≡ true → AreUnused items → is_long (said m) ≡ false → any_long (macros_after m tree) items ≡ false →
+  pub valued-short : (m : Macros) (tree : Tree) (items : List Item) → defines name tree ≡ true → AreUnused items → is_long (said m) ≡ false → any_long (macros_after m tree) items ≡ false →
       (is_long_in m (definition_to v tree) || any_long (macros_after m (definition_to v tree)) items) ≡ false
   valued-short m (CommentTree c) items e none short all = absurd (false≢true e)
   valued-short m (PreambleTree p) items e none short all = absurd (false≢true e)

@@ -1,7 +1,10 @@
 pub mod Faults
+pub mod Numbers
 pub mod Asking
 pub mod Planning
 pub mod Addressing
+pub mod OneOfSeveral
+pub mod MeantFields
 pub mod Removal
 pub mod NewEntries
 pub mod ManyEntries

@@ -5,11 +5,13 @@ use Rattle.bib_spec.specs.Bytes.{name_limit}
 use Rattle.bib_spec.specs.Text.{Text}
 use Rattle.bib_spec.specs.Reading.{Reading, IsValueWithin}
 use Rattle.bib_spec.specs.Pieces.{Piece}
-use Rattle.edit_spec.specs.Edits.{MoveEntry, last_position, line_end}
+use Rattle.edit_spec.specs.Edits.{MoveEntry, Moves, last_position, line_end}
 use Rattle.bib_scan.specs.View.{Field}
 use Rattle.bib_edit.specs.Addressing.{IsHeldAt}
 use Rattle.bib_edit.specs.NewEntries.{IsLong, insertion_of}
 use Rattle.bib_edit.specs.Removal.{body_at, JoinsCleanly, removal_of}
+use Rattle.bib_edit.specs.declared.numbers.Which.{Which}
+use Rattle.bib_edit.specs.OneOfSeveral.{IsMeantAt, change}
 
 -- the item before which item n will stand, by old numbers
 abbrev pub next_item : ℕ → ℕ → ℕ
@@ -30,6 +32,12 @@ moved_pieces db n position =
 pub record IsMovable (key : Text) (position : ℕ) (db : Reading) (n : ℕ) : Type 0 where
   pub low : position ≤ last_position db (MoveEntry key position)
   pub lone : IsHeldAt key db n
+  pub joins : JoinsCleanly db n
+
+-- the same of the entry that a number tells among several
+pub record IsOneMovable (key : Which) (position : ℕ) (db : Reading) (n : ℕ) : Type 0 where
+  pub low : position ≤ last_position db (change key (Moves position))
+  pub meant : IsMeantAt key db n
   pub joins : JoinsCleanly db n
 
 -- each field has a value

@@ -1,9 +1,9 @@
 -- The places that positions say, and edits at a position.
-use Rattle.std.specs.Prelude.{ℕ, ◌≡◌, ◌+◌, ◌-◌, ◌⊎◌, nat_lt, if◌then◌else◌, List, length}
+use Rattle.std.specs.Prelude.{ℕ, ◌≡◌, ◌<◌, ◌+◌, ◌-◌, ◌⊎◌, nat_lt, if◌then◌else◌, is_some, unwrap_or, List, length}
 use Rattle.bib_spec.specs.Text.{Text}
 use Rattle.bib_spec.specs.Reading.{Item, Reading}
 use Rattle.bib_spec.specs.Pieces.{Piece}
-use Rattle.edit_spec.specs.Edits.{is_entry, holders}
+use Rattle.edit_spec.specs.Edits.{is_entry, holders, item_meant}
 use Rattle.edit_spec.specs.OtherLaws.{number_of_first}
 use Rattle.bib_store.specs.Readings.{OfReading}
 use Rattle.bib_data.specs.declared.position.Position.{Position}
@@ -11,7 +11,8 @@ use Rattle.bib_data.specs.declared.position.Position.TheVariants.{Number, End, B
 use Rattle.bib_data.specs.declared.edit.Edit.{Edit}
 use Rattle.bib_data.specs.declared.edit.Edit.TheVariants.{AddEntry, MoveEntry}
 use Rattle.bib_edit.specs.declared.fault.EditFault.{EditFault}
-use Rattle.bib_edit.specs.Addressing.{IsHolderFault}
+use Rattle.bib_edit.specs.declared.fault.EditFault.TheVariants.{NotFound, Ambiguous}
+use Rattle.bib_edit.specs.Numbers.{is_numbered, which_of}
 use Rattle.bib_edit.specs.Planning.{IsAllowedEdit, ArePiecesOf, IsRefusal}
 
 -- ---- places
@@ -20,23 +21,36 @@ use Rattle.bib_edit.specs.Planning.{IsAllowedEdit, ArePiecesOf, IsRefusal}
 abbrev pub items_before : Text → List Item → ℕ
 items_before key items = number_of_first (is_entry key) items
 
+-- how many items are before the entry that is meant: all, if there is none; a number tells which it is of several that have the key
+abbrev pub items_before_meant : Text → List Item → ℕ
+items_before_meant key items = if is_numbered key then unwrap_or (item_meant (which_of key) items) (length items) else items_before key items
+
+-- how many entries are meant: those that have the key, or one at most if a number tells which
+abbrev pub count_meant : Text → Reading → ℕ
+count_meant key db = if is_numbered key then (if is_some (item_meant (which_of key) db.items) then 1 else 0) else holders key db
+
 -- the place that the position says: how many items are before it
 abbrev pub place_of : Position → Reading → ℕ
 place_of (Number n) db = n
 place_of End db = length db.items
-place_of (Before key) db = items_before key db.items
-place_of (After key) db = items_before key db.items + 1
+place_of (Before key) db = items_before_meant key db.items
+place_of (After key) db = items_before_meant key db.items + 1
 
--- if the position has a key, exactly one entry has the key
+-- if the position has a key, exactly one entry is meant
 abbrev pub NamesOneEntry : Position → Reading → Type 0
-NamesOneEntry (Before key) db = holders key db ≡ 1
-NamesOneEntry (After key) db = holders key db ≡ 1
+NamesOneEntry (Before key) db = count_meant key db ≡ 1
+NamesOneEntry (After key) db = count_meant key db ≡ 1
 NamesOneEntry other db = Unit {0}
 
--- no entry has the key of the position, or several do
+-- no entry is meant, or several are
+pub data IsCountFault (file key : Text) : EditFault → Type 0 where
+  none_meant : OfReading file (λ db. count_meant key db ≡ 0) → IsCountFault file key NotFound
+  many_meant : OfReading file (λ db. 1 < count_meant key db) → IsCountFault file key Ambiguous
+
+-- by the key of the position no entry is meant, or several are
 abbrev pub IsPositionRefusal : Text → Position → EditFault → Type 0
-IsPositionRefusal file (Before key) fault = IsHolderFault file key fault
-IsPositionRefusal file (After key) fault = IsHolderFault file key fault
+IsPositionRefusal file (Before key) fault = IsCountFault file key fault
+IsPositionRefusal file (After key) fault = IsCountFault file key fault
 IsPositionRefusal file other fault = ⊥
 
 -- the place is that of the position
@@ -45,9 +59,9 @@ IsPositionPlace file position place = OfReading file (λ db. NamesOneEntry posit
 
 -- ---- the place of an edit
 
--- how many of the first n items are others than the first entry that the key names
+-- how many of the first n items are others than the entry that moves
 abbrev pub others_before : Text → List Item → ℕ → ℕ
-others_before key items n = if nat_lt (items_before key items) n then n - 1 else n
+others_before key items n = if nat_lt (items_before_meant key items) n then n - 1 else n
 
 -- The place that the position says for an edit. An entry that moves isn't counted, except in a number that is given.
 abbrev pub place_for : Position → Edit → Reading → ℕ

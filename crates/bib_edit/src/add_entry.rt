@@ -7,8 +7,8 @@ ghost use Rattle.bib_data.specs.declared.edit.Edit.TheVariants.{AddEntry};
 use crate::adding::add;
 use crate::fault::EditFault;
 use bib_data::NewEntry;
-use bib_scan::Seq;
 use bib_store::{Database, ItemList, Piece};
+use bib_text::Seq;
 use std::alloc::Global;
 use std::slice::from_ref;
 

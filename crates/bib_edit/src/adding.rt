@@ -14,8 +14,9 @@ use crate::new_entries::{
 };
 use crate::new_text::entries_text;
 use bib_data::NewEntry;
-use bib_scan::{Seq, one_reading};
+use bib_scan::one_reading;
 use bib_store::{Database, ItemList, Piece};
+use bib_text::Seq;
 use std::alloc::Global;
 
 /// Refuses entries that are not valid, or can't come together before item `position`. It judges all keys first, then

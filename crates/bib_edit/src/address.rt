@@ -7,8 +7,9 @@ ghost use Rattle.bib_store.specs.Readings.{OfReading};
 ghost use Rattle.bib_edit.specs.Addressing.{IsHeldAt, IsLoneNumber, IsHolderFault, is_field, AreSought};
 
 use crate::fault::EditFault;
-use bib_scan::{FieldView, ItemView, same_folded};
+use bib_scan::{FieldView, ItemView};
 use bib_store::{Database, ItemList};
+use bib_text::same_folded;
 
 /// The number among the entries of the one entry with this key.
 pub(crate) fn lone_number<L: ItemList>(db: &Database<L>, key: &[u8]) -> Result<usize, EditFault>

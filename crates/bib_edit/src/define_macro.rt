@@ -17,8 +17,9 @@ use crate::taking_out::body_of;
 use crate::trying::unless_too_long;
 use crate::unused_values::stays_short;
 use crate::values::is_value;
-use bib_scan::{Kind, Seq, Text, is_name, one_reading};
+use bib_scan::{Kind, is_name, one_reading};
 use bib_store::{Database, ItemList, Piece};
+use bib_text::{Seq, Text};
 use std::alloc::{AllocError, Global};
 
 /// The piece that defines the macro as this value, or the first reason against it. It looks at items as `push_from` does, from the

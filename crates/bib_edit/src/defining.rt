@@ -10,8 +10,8 @@ ghost use Rattle.bib_edit.specs.Definitions.{IsDefinedAt, IsDefinitionFault, IsD
 ghost use Rattle.bib_tokens.specs.PlacedParts.{token_seen};
 
 use crate::fault::EditFault;
-use bib_scan::{Seq, Text};
 use bib_store::{Database, ItemList};
+use bib_text::{Seq, Text};
 use bib_tokens::Token;
 use bib_value::{MacroTable, month};
 use std::alloc::{AllocError, Global};

@@ -1,8 +1,9 @@
 //! Takes a field out of an entry.
 
-ghost use Rattle.std.specs.Prelude.{◌≡◌, ◌&&◌, ◌==◌, ◌+◌, ◌≤◌, ◌<◌, ◌^◌, [], ◌∷◌, length, drop, bytes_eq, OnOk, IfOk, IfErr};
+ghost use Rattle.std.specs.Prelude.{◌≡◌, ◌&&◌, ◌==◌, ◌+◌, ◌≤◌, ◌<◌, ◌^◌, [], ◌∷◌, length, drop, bytes_eq, OnOk, IfOk, IfErr, false, ◌||◌};
 ghost use Rattle.bib_spec.specs.Bytes.{close_paren};
 ghost use Rattle.bib_scan.specs.View.{field_seen};
+ghost use Rattle.bib_edit.specs.Numbers.{is_numbered};
 ghost use Rattle.bib_edit.specs.Planning.{IsAllowedEdit, ArePiecesOf, IsRefusal};
 ghost use Rattle.bib_tokens.specs.PlacedParts.{field_end};
 ghost use Rattle.bib_edit.specs.FieldPieces.{cut_piece, joins_key};
@@ -12,8 +13,9 @@ ghost use Rattle.bib_edit.specs.declared.fault.EditFault.TheVariants.{Memory};
 use crate::address::sought_fields;
 use crate::fault::EditFault;
 use crate::pieces::one_piece;
-use bib_scan::{FieldView, ItemView, Seq, copied, is_name};
+use bib_scan::{FieldView, ItemView, is_name};
 use bib_store::{Database, ItemList, Piece};
+use bib_text::{Seq, copied};
 use std::alloc::Global;
 
 /// The pieces that take this field out of this entry, or the first reason against it. If several entries have the key,
@@ -24,6 +26,7 @@ pub(crate) fn drop_field<L: ItemList>(
     key: &[u8],
     field: &[u8],
 ) -> Result<Seq<Piece>, EditFault>
+    requires { (is_numbered key.now || is_numbered field.now) ≡ false }
     ensures pieces { IfOk result (ArePiecesOf db.now (DropField key.now field.now)) }
     ensures allowed { OnOk result (IsAllowedEdit db.now (DropField key.now field.now)) }
     ensures refused { IfErr result (IsRefusal db.now (DropField key.now field.now)) }
@@ -54,7 +57,7 @@ pub(crate) fn drop_field<L: ItemList>(
 }
 
 /// Whether the closing parenthesis would come directly after the key without the row.
-fn joins_key(view: &ItemView<'_>, row: FieldView<'_>) -> bool
+pub(crate) fn joins_key(view: &ItemView<'_>, row: FieldView<'_>) -> bool
     requires end { field_end (field_seen row) ≤ length view.now.body }
     requires key { view.now.key_at + length view.now.key < 2 ^ 64 }
     ensures { result ≡ joins_key view.now (field_seen row.entry) }
@@ -64,7 +67,12 @@ fn joins_key(view: &ItemView<'_>, row: FieldView<'_>) -> bool
 }
 
 /// The piece that takes the row out of a body that begins at this place: from its comma to the end of its value.
-fn cut(alloc: Global, start: usize, body: &[u8], row: FieldView<'_>) -> Result<Piece, EditFault>
+pub(crate) fn cut(
+    alloc: Global,
+    start: usize,
+    body: &[u8],
+    row: FieldView<'_>,
+) -> Result<Piece, EditFault>
     requires end { field_end (field_seen row) ≤ length body.now }
     requires begin { row.start ≤ field_end (field_seen row) }
     requires place { start + row.start < 2 ^ 64 }

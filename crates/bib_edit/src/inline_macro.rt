@@ -8,8 +8,9 @@ use crate::defining::{braced_text, lone_definition};
 use crate::fault::EditFault;
 use crate::replacing::{is_result_too_long, replaced_after};
 use crate::taking_out::{body_of, joins_cleanly, removal_of};
-use bib_scan::{Seq, is_name, one_reading};
+use bib_scan::{is_name, one_reading};
 use bib_store::{Database, ItemList, Piece};
+use bib_text::Seq;
 use bib_tokens::{Sought, push_from};
 use std::alloc::Global;
 

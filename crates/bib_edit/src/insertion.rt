@@ -12,8 +12,9 @@ use crate::fault::EditFault;
 use crate::limits::is_file_too_long;
 use crate::new_entries::put_in;
 use crate::taking_out::continues_cleanly;
-use bib_scan::{Seq, Text, one_reading};
+use bib_scan::one_reading;
 use bib_store::{Database, ItemList, Piece};
+use bib_text::{Seq, Text};
 use std::alloc::Global;
 
 /// Whether the text ends a line: it is empty, or its last byte is a line feed.

@@ -10,8 +10,9 @@ use crate::defining::is_given;
 use crate::fault::EditFault;
 use crate::pieces::insertion_of;
 use crate::replacing::{is_result_too_long, replaced_after};
-use bib_scan::{Seq, Text, is_balanced, is_name, one_reading};
+use bib_scan::{is_balanced, is_name, one_reading};
 use bib_store::{Database, ItemList, Piece};
+use bib_text::{Seq, Text};
 use bib_tokens::{Sought, first_with, push_from};
 use std::alloc::{AllocError, Global};
 

@@ -1,7 +1,8 @@
 //! Moves an entry.
 
-ghost use Rattle.std.specs.Prelude.{OnOk, IfOk, IfErr};
+ghost use Rattle.std.specs.Prelude.{OnOk, IfOk, IfErr, ◌≡◌, false};
 ghost use Rattle.bib_store.specs.Readings.{OfReading};
+ghost use Rattle.bib_edit.specs.Numbers.{is_numbered};
 ghost use Rattle.bib_edit.specs.Planning.{IsAllowedEdit, ArePiecesOf, IsRefusal};
 ghost use Rattle.bib_edit.specs.Moving.{IsMovable};
 ghost use Rattle.bib_data.specs.declared.edit.Edit.TheVariants.{MoveEntry};
@@ -11,8 +12,9 @@ use crate::fault::EditFault;
 use crate::limits::are_too_long;
 use crate::moving::{is_field_long, last_position, moved_pieces, next_item};
 use crate::taking_out::joins_cleanly;
-use bib_scan::{Seq, one_reading};
+use bib_scan::one_reading;
 use bib_store::{Database, ItemList, Piece};
+use bib_text::Seq;
 use std::alloc::Global;
 
 /// The item that is the one entry with this key, if it can move before item `position` of what remains. No
@@ -23,6 +25,7 @@ fn movable<L: ItemList>(
     key: &[u8],
     position: usize,
 ) -> Result<usize, EditFault>
+    requires { is_numbered key.now ≡ false }
     ensures movable { IfOk result (λ n. OfReading db.now (λ r. IsMovable key.now position r n)) }
     ensures refused { IfErr result (IsRefusal db.now (MoveEntry key.now position)) }
 {
@@ -45,6 +48,7 @@ pub(crate) fn move_entry<L: ItemList>(
     key: &[u8],
     position: usize,
 ) -> Result<Seq<Piece>, EditFault>
+    requires { is_numbered key.now ≡ false }
     ensures pieces { IfOk result (ArePiecesOf db.now (MoveEntry key.now position)) }
     ensures allowed { OnOk result (IsAllowedEdit db.now (MoveEntry key.now position)) }
     ensures refused { IfErr result (IsRefusal db.now (MoveEntry key.now position)) }

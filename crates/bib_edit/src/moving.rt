@@ -10,8 +10,9 @@ use crate::fault::EditFault;
 use crate::new_fields::is_long;
 use crate::pieces::insertion_of;
 use crate::taking_out::{body_of, removal_of};
-use bib_scan::{Fields, Seq, Text};
+use bib_scan::Fields;
 use bib_store::{Database, ItemList, Piece};
+use bib_text::{Seq, Text};
 use std::alloc::{AllocError, Global};
 
 /// The highest position that a moved entry can have. If an entry has the key, it is not counted.

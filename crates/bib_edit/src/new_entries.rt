@@ -13,8 +13,9 @@ use crate::fault::EditFault;
 use crate::new_fields::{are_named, are_values, has_same_name, is_any_long};
 use crate::pieces::{insertion_of, one_piece};
 use bib_data::NewEntry;
-use bib_scan::{Seq, Text, is_key, is_type};
+use bib_scan::{is_key, is_type};
 use bib_store::{Database, ItemList, Piece};
+use bib_text::{Seq, Text};
 use folded_map::FoldedMap;
 use std::alloc::{AllocError, Global};
 

@@ -4,7 +4,7 @@ ghost use Rattle.std.specs.Prelude.{◌≡◌, [], ◌∷◌, IfOk};
 ghost use Rattle.std.specs.Option.{option_copied};
 ghost use Rattle.bib_edit.specs.NewKeys.{key_of};
 
-use bib_scan::{Seq, Text, copied};
+use bib_text::{Seq, Text, copied};
 use std::alloc::{AllocError, Global};
 
 /// The keys that entries get: the entries from number `first` on get these in turn, the other entries get none.

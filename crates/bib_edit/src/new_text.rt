@@ -5,7 +5,7 @@ ghost use Rattle.bib_edit.specs.NewEntries.{field_line, lines_of, line_before_cl
 ghost use Rattle.bib_edit.specs.ManyEntries.{entries_text};
 
 use bib_data::NewEntry;
-use bib_scan::{Seq, Text};
+use bib_text::{Seq, Text};
 use std::alloc::{AllocError, Global};
 
 /// Puts the comma, the name and the value of a field into a line of its own.

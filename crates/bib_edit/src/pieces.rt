@@ -6,8 +6,8 @@ ghost use Rattle.bib_edit.specs.NewEntries.{insertion_of};
 ghost use Rattle.bib_edit.specs.declared.fault.EditFault.TheVariants.{Memory};
 
 use crate::fault::EditFault;
-use bib_scan::{Seq, Text};
 use bib_store::{Database, ItemList, Piece};
+use bib_text::{Seq, Text};
 use std::alloc::Global;
 
 /// The list of this one piece.

@@ -6,24 +6,19 @@ ghost use Rattle.bib_edit.specs.Planning.{IsAllowedEdit, ArePiecesOf, IsRefusal}
 
 use crate::add_entry::add_entry;
 use crate::add_many::add_many;
+use crate::choosing::{
+    drop_row, move_to, redefine, rekey, remove, rename_fields, retype, set, undefine,
+};
 use crate::define_macro::define_macro;
-use crate::drop_field::drop_field;
 use crate::fault::EditFault;
 use crate::inline_macro::inline_macro;
 use crate::introduce_macro::introduce_macro;
-use crate::move_entry::move_entry;
 use crate::regenerate_keys::regenerate_keys;
-use crate::remove_entry::remove_entry;
-use crate::rename_field::{rename_in_all, rename_in_entry};
-use crate::rename_key::rename_key;
+use crate::rename_field::rename_in_all;
 use crate::rename_macro::rename_macro;
-use crate::set_field::set_field;
-use crate::set_macro::set_macro;
-use crate::set_type::set_type;
-use crate::undefine_macro::undefine_macro;
 use bib_data::Edit;
-use bib_scan::Seq;
 use bib_store::{Database, ItemList, Piece};
+use bib_text::Seq;
 use std::alloc::Global;
 
 /// The pieces that make the edit, or the first reason that refuses it. Nothing has changed yet. It takes time in the
@@ -44,21 +39,19 @@ pub fn plan<L: ItemList>(
     ensures refused { IfErr result (IsRefusal db.now edit.now) }
 {
     match edit {
-        Edit::SetField { key, field, value } => set_field(
+        Edit::SetField { key, field, value } => set(
             alloc,
             db,
             key.as_slice(),
             field.as_slice(),
             value.as_slice(),
         ),
-        Edit::DropField { key, field } => {
-            drop_field(alloc, db, key.as_slice(), field.as_slice())
-        }
+        Edit::DropField { key, field } => { drop_row(alloc, db, key.as_slice(), field.as_slice()) }
         Edit::AddEntry { place, entry } => add_entry(alloc, db, *place, entry),
         Edit::AddMany { entries } => add_many(alloc, db, entries.as_slice()),
-        Edit::RemoveEntry { key } => remove_entry(alloc, db, key.as_slice()),
-        Edit::MoveEntry { key, place } => move_entry(alloc, db, key.as_slice(), *place),
-        Edit::RenameKey { from, to } => rename_key(alloc, db, from.as_slice(), to.as_slice()),
+        Edit::RemoveEntry { key } => remove(alloc, db, key.as_slice()),
+        Edit::MoveEntry { key, place } => move_to(alloc, db, key.as_slice(), *place),
+        Edit::RenameKey { from, to } => rekey(alloc, db, from.as_slice(), to.as_slice()),
         Edit::RegenerateKeys { depth } => regenerate_keys(alloc, db, *depth),
         Edit::RenameMacro { from, to } => {
             rename_macro(alloc, db, from.as_slice(), to.as_slice())
@@ -68,9 +61,9 @@ pub fn plan<L: ItemList>(
             introduce_macro(alloc, db, name.as_slice(), text.as_slice())
         }
         Edit::SetType { key, kind_name } => {
-            set_type(alloc, db, key.as_slice(), kind_name.as_slice())
+            retype(alloc, db, key.as_slice(), kind_name.as_slice())
         }
-        Edit::UndefineMacro { name } => undefine_macro(alloc, db, name.as_slice()),
+        Edit::UndefineMacro { name } => undefine(alloc, db, name.as_slice()),
         Edit::RenameField {
             from,
             to,
@@ -80,12 +73,10 @@ pub fn plan<L: ItemList>(
             from,
             to,
             key: Some(key),
-        } => rename_in_entry(alloc, db, from.as_slice(), to.as_slice(), key.as_slice()),
+        } => rename_fields(alloc, db, from.as_slice(), to.as_slice(), key.as_slice()),
         Edit::DefineMacro { name, value } => {
             define_macro(alloc, db, name.as_slice(), value.as_slice())
         }
-        Edit::SetMacro { name, value } => {
-            set_macro(alloc, db, name.as_slice(), value.as_slice())
-        }
+        Edit::SetMacro { name, value } => { redefine(alloc, db, name.as_slice(), value.as_slice()) }
     }
 }

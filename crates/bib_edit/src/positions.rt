@@ -1,37 +1,53 @@
 //! The place that a position says, and edits at a position.
 
-ghost use Rattle.std.specs.Prelude.{ℕ, ◌≡◌, ◌+◌, OnOk, IfOk, IfErr};
-ghost use Rattle.edit_spec.specs.Edits.{holders};
+ghost use Rattle.std.specs.Prelude.{ℕ, ◌≡◌, ◌<◌, ◌+◌, length, OnOk, IfOk, IfErr};
 ghost use Rattle.bib_store.specs.Readings.{OfReading};
-ghost use Rattle.bib_edit.specs.Addressing.{IsHolderFault};
 ghost use Rattle.bib_data.specs.declared.edit.Edit.TheVariants.{MoveEntry};
 ghost use Rattle.bib_data.specs.Depths.{HasDepth};
-ghost use Rattle.bib_edit.specs.Positions.{items_before, others_before, place_for, IsPositionPlace, IsPositionRefusal, ArePiecesAt, IsAllowedAt, IsRefusalAt};
+ghost use Rattle.bib_edit.specs.Positions.{items_before, items_before_meant, count_meant, others_before, place_for, IsCountFault, IsPositionPlace, IsPositionRefusal, ArePiecesAt, IsAllowedAt, IsRefusalAt};
 
 use crate::add_entry::add_entry;
 use crate::address::lone_entry;
+use crate::choosing::move_to;
 use crate::fault::EditFault;
-use crate::move_entry::move_entry;
+use crate::numbers::{is_numbered, which_of};
+use crate::one_entry::item_meant;
 use crate::planning::plan;
 use bib_data::{Edit, Position};
-use bib_scan::Seq;
 use bib_store::{Database, ItemList, Piece};
+use bib_text::Seq;
 use std::alloc::Global;
 
-/// The place directly after the one entry that the key names.
+/// The place of the one entry that is meant.
+fn place_before<L: ItemList>(db: &Database<L>, key: &[u8]) -> Result<usize, EditFault>
+    ensures place { IfOk result (λ place. OfReading db.now (λ r. (count_meant key.now r ≡ 1) × (place ≡ items_before_meant key.now r.items))) }
+    ensures within { IfOk result (λ place. OfReading db.now (λ r. place < length r.items)) }
+    ensures refused { IfErr result (IsCountFault db.now key.now) }
+{
+    if !is_numbered(key) {
+        return lone_entry(db, key);
+    }
+    match item_meant(db, which_of(key)) {
+        Some(n) => Ok(n),
+        None => Err(EditFault::NotFound),
+    }
+}
+
+/// The place directly after the one entry that is meant.
 fn place_after<L: ItemList>(db: &Database<L>, key: &[u8]) -> Result<usize, EditFault>
-    ensures place { IfOk result (λ place. OfReading db.now (λ r. (holders key.now r ≡ 1) × (place ≡ items_before key.now r.items + 1))) }
-    ensures refused { IfErr result (IsHolderFault db.now key.now) }
+    ensures place { IfOk result (λ place. OfReading db.now (λ r. (count_meant key.now r ≡ 1) × (place ≡ items_before_meant key.now r.items + 1))) }
+    ensures refused { IfErr result (IsCountFault db.now key.now) }
 {
     // for the proof: the number of an item can grow by one
     db.opens();
     let _ = db.item_count();
-    let n = lone_entry(db, key)?;
+    let n = place_before(db, key)?;
     Ok(n + 1)
 }
 
 /// The place that a position says: how many items are before it. It is refused if no entry has the key of the position, or
-/// several have it. It takes a look-up of the key. (dialect)
+/// several have it and no number tells which is meant. It takes a look-up of the key, and with a number a pass over the
+/// items. (dialect)
 pub fn place_of<L: ItemList>(db: &Database<L>, position: &Position) -> Result<usize, EditFault>
     ensures place { IfOk result (IsPositionPlace db.now position.now) }
     ensures refused { IfErr result (IsPositionRefusal db.now position.now) }
@@ -39,7 +55,7 @@ pub fn place_of<L: ItemList>(db: &Database<L>, position: &Position) -> Result<us
     match position {
         Position::Number(n) => Ok(*n),
         Position::End => Ok(db.item_count()),
-        Position::Before(key) => lone_entry(db, key.as_slice()),
+        Position::Before(key) => place_before(db, key.as_slice()),
         Position::After(key) => place_after(db, key.as_slice()),
     }
 }
@@ -54,11 +70,24 @@ fn items_before<L: ItemList>(db: &Database<L>, key: &[u8]) -> usize
     }
 }
 
-/// How many of the first `place` items are others than the first entry that the key names.
+/// How many items are before the entry that is meant: all, if there is no such entry.
+fn items_before_meant<L: ItemList>(db: &Database<L>, key: &[u8]) -> usize
+    ensures { OfReading db.now (λ r. result ≡ items_before_meant key.now r.items) }
+{
+    if !is_numbered(key) {
+        return items_before(db, key);
+    }
+    match item_meant(db, which_of(key)) {
+        Some(n) => n,
+        None => db.item_count(),
+    }
+}
+
+/// How many of the first `place` items are others than the entry that moves.
 fn others_before<L: ItemList>(db: &Database<L>, key: &[u8], place: usize) -> usize
     ensures { OfReading db.now (λ r. result ≡ others_before key.now r.items place) }
 {
-    if items_before(db, key) < place {
+    if items_before_meant(db, key) < place {
         return place - 1;
     }
     place
@@ -100,7 +129,7 @@ pub fn plan_at<L: ItemList>(
         Edit::AddEntry { entry, .. } => add_entry(alloc, db, place, entry),
         Edit::MoveEntry { key, .. } => {
             let key = key.as_slice();
-            move_entry(alloc, db, key, place_among_others(db, position, key, place))
+            move_to(alloc, db, key, place_among_others(db, position, key, place))
         }
         _ => plan(alloc, db, edit),
     }

@@ -10,7 +10,7 @@ ghost use Rattle.bib_edit.specs.Removal.{IsParent};
 use bib_store::{Database, ItemList};
 
 /// Whether entry `m`, which the key names, is the parent of some entry: an entry other than `m` refers to the key.
-fn is_parent<L: ItemList>(db: &Database<L>, key: &[u8], m: usize) -> bool
+pub(crate) fn is_parent<L: ItemList>(db: &Database<L>, key: &[u8], m: usize) -> bool
     requires { length key.now ≤ name_limit }
     ensures { OfReading db.now (λ r. entry_named (entries_of r) key.now ≡ Some m → IsTrue result ↔ IsParent (entries_of r) m) }
 {

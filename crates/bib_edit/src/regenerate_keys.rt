@@ -10,8 +10,9 @@ use crate::limits::are_too_long;
 use crate::new_keys::NewKeys;
 use crate::rekeying::rekeying;
 use bib_keys::made_keys;
-use bib_scan::{Seq, one_reading};
+use bib_scan::one_reading;
 use bib_store::{Database, ItemList, Piece};
+use bib_text::Seq;
 use std::alloc::Global;
 
 /// The pieces that give all entries their made keys at once, from their records at this depth, and put these keys into

@@ -15,8 +15,9 @@ ghost use Rattle.bib_edit.specs.declared.fault.EditFault.TheVariants.{Memory};
 use crate::address::field_named;
 use crate::fault::EditFault;
 use crate::new_keys::NewKeys;
-use bib_scan::{ItemView, Seq, Text, copied};
+use bib_scan::ItemView;
 use bib_store::{Database, ItemList, Piece};
+use bib_text::{Seq, Text, copied};
 use std::alloc::{AllocError, Global};
 
 /// The key in braces, as a crossref names it.
@@ -31,7 +32,7 @@ fn braced(alloc: Global, key: &[u8]) -> Result<Text, AllocError>
 }
 
 /// Adds the piece that gives the entry its new key, if it gets one.
-fn push_key(
+pub(crate) fn push_key(
     alloc: Global,
     pieces: &mut Vec<Piece>,
     start: usize,

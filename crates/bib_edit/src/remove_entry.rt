@@ -1,6 +1,7 @@
 //! Takes an entry out.
 
-ghost use Rattle.std.specs.Prelude.{OnOk, IfOk, IfErr};
+ghost use Rattle.std.specs.Prelude.{OnOk, IfOk, IfErr, ◌≡◌, false};
+ghost use Rattle.bib_edit.specs.Numbers.{is_numbered};
 ghost use Rattle.bib_edit.specs.Planning.{IsAllowedEdit, ArePiecesOf, IsRefusal};
 ghost use Rattle.bib_data.specs.declared.edit.Edit.TheVariants.{RemoveEntry};
 
@@ -9,8 +10,9 @@ use crate::fault::EditFault;
 use crate::pieces::one_piece;
 use crate::referring::is_referred;
 use crate::taking_out::{joins_cleanly, removal_of};
-use bib_scan::{Seq, one_reading};
+use bib_scan::one_reading;
 use bib_store::{Database, ItemList, Piece};
+use bib_text::Seq;
 use std::alloc::Global;
 
 /// The piece that takes this entry's body out, or the first reason against it. It takes a few steps for each page of
@@ -20,6 +22,7 @@ pub(crate) fn remove_entry<L: ItemList>(
     db: &Database<L>,
     key: &[u8],
 ) -> Result<Seq<Piece>, EditFault>
+    requires { is_numbered key.now ≡ false }
     ensures pieces { IfOk result (ArePiecesOf db.now (RemoveEntry key.now)) }
     ensures allowed { OnOk result (IsAllowedEdit db.now (RemoveEntry key.now)) }
     ensures refused { IfErr result (IsRefusal db.now (RemoveEntry key.now)) }

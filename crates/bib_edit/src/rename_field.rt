@@ -1,6 +1,6 @@
 //! Gives fields another name.
 
-ghost use Rattle.std.specs.Prelude.{◌≡◌, ◌≤◌, ◌<◌, ◌+◌, ◌^◌, ◌++◌, ◌&&◌, ◌||◌, [], ◌∷◌, Some, None, not, nat_lt, length, count_by, IfOk, IfErr, OnOk};
+ghost use Rattle.std.specs.Prelude.{◌≡◌, ◌≤◌, ◌<◌, ◌+◌, ◌^◌, ◌++◌, ◌&&◌, ◌||◌, [], ◌∷◌, Some, None, not, nat_lt, length, count_by, IfOk, IfErr, OnOk, false};
 ghost use Rattle.std.specs.List.{list_any};
 ghost use Rattle.bib_spec.specs.Text.{is_name, same};
 ghost use Rattle.bib_spec.specs.Records.{crossref};
@@ -13,14 +13,16 @@ ghost use Rattle.bib_edit.specs.FieldPieces.{OfItem};
 ghost use Rattle.bib_edit.specs.Limits.{olds_len};
 ghost use Rattle.bib_edit.specs.Replacing.{replaced};
 ghost use Rattle.bib_edit.specs.RenamedFields.{has_either, fields_clash, item_clashes, own_fields, names_at, names_in, AreNamesPlaced, AreReplaceable, IsRenamingFault};
+ghost use Rattle.bib_edit.specs.Numbers.{is_numbered};
 ghost use Rattle.bib_edit.specs.Planning.{IsAllowedEdit, ArePiecesOf, IsRefusal};
 ghost use Rattle.bib_data.specs.declared.edit.Edit.TheVariants.{RenameField};
 ghost use Rattle.bib_edit.specs.declared.fault.EditFault.TheVariants.{Memory};
 
 use crate::fault::EditFault;
 use crate::replacing::{is_result_too_long, push_replaced};
-use bib_scan::{FieldView, Fields, ItemView, Kind, Seq, is_name, same_folded};
+use bib_scan::{FieldView, Fields, ItemView, Kind, is_name};
 use bib_store::{Database, ItemList, Piece};
+use bib_text::{Seq, same_folded};
 use bib_tokens::Token;
 use std::alloc::{AllocError, Global};
 
@@ -54,6 +56,7 @@ pub(crate) fn rename_in_entry<L: ItemList>(
     to: &[u8],
     key: &[u8],
 ) -> Result<Seq<Piece>, EditFault>
+    requires { is_numbered key.now ≡ false }
     ensures pieces { IfOk result (ArePiecesOf db.now (RenameField from.now to.now (Some key.now))) }
     ensures allowed { OnOk result (IsAllowedEdit db.now (RenameField from.now to.now (Some key.now))) }
     ensures refused { IfErr result (IsRefusal db.now (RenameField from.now to.now (Some key.now))) }
@@ -81,7 +84,7 @@ fn are_two(clashes: bool, holders: usize) -> bool
 }
 
 /// Whether both are valid names, and neither is `crossref`.
-fn are_renamable(from: &[u8], to: &[u8]) -> bool
+pub(crate) fn are_renamable(from: &[u8], to: &[u8]) -> bool
     ensures { result ≡ ((not (same from.now crossref) && not (same to.now crossref)) && (is_name from.now && is_name to.now)) }
 {
     are_no_crossrefs(from, to) && are_names(from, to)
@@ -103,9 +106,9 @@ fn are_names(from: &[u8], to: &[u8]) -> bool
 
 /// The names that get other bytes, each with its place, and whether an entry would then have two fields of the new name.
 #[derive(Drop)]
-struct Found<'a> {
-    names: Vec<Token<'a>>,
-    clashes: bool,
+pub(crate) struct Found<'a> {
+    pub(crate) names: Vec<Token<'a>>,
+    pub(crate) clashes: bool,
 }
 
 /// What is found in the file.
@@ -133,7 +136,7 @@ fn found_in_all<'a, L: ItemList>(
 }
 
 /// What is found in item `n`.
-fn found_in_item<'a, L: ItemList>(
+pub(crate) fn found_in_item<'a, L: ItemList>(
     alloc: Global,
     db: &'a Database<L>,
     n: usize,
@@ -236,7 +239,7 @@ fn push_name<'a>(
 
 /// The pieces that put the new name in the place of each of these, or the first reason against it: there are none of these, the
 /// edit is ambiguous, or the file would be too long.
-fn renaming<L: ItemList>(
+pub(crate) fn renaming<L: ItemList>(
     alloc: Global,
     db: &Database<L>,
     names: &[Token<'_>],

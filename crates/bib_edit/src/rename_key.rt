@@ -1,9 +1,10 @@
 //! Gives an entry another key.
 
-ghost use Rattle.std.specs.Prelude.{◌≡◌, true, OnOk, IfOk, IfErr};
+ghost use Rattle.std.specs.Prelude.{◌≡◌, true, OnOk, IfOk, IfErr, false};
 ghost use Rattle.bib_spec.specs.Text.{is_new_key};
 ghost use Rattle.bib_spec.specs.Records.{entries_of};
 ghost use Rattle.bib_store.specs.Readings.{OfReading};
+ghost use Rattle.bib_edit.specs.Numbers.{is_numbered};
 ghost use Rattle.bib_edit.specs.Planning.{IsAllowedEdit, ArePiecesOf, IsRefusal};
 ghost use Rattle.bib_edit.specs.Dangling.{is_in_use};
 ghost use Rattle.bib_data.specs.declared.edit.Edit.TheVariants.{RenameKey};
@@ -14,8 +15,9 @@ use crate::fault::EditFault;
 use crate::limits::are_too_long;
 use crate::new_keys::key_for;
 use crate::rekeying::renaming;
-use bib_scan::{Seq, is_key, one_reading, same_folded};
+use bib_scan::{is_key, one_reading};
 use bib_store::{Database, ItemList, Piece};
+use bib_text::{Seq, same_folded};
 use std::alloc::Global;
 
 /// Whether an entry has the new key, unless it is the old key in another case, or a dangling crossref names the new
@@ -37,6 +39,7 @@ pub(crate) fn rename_key<L: ItemList>(
     from: &[u8],
     to: &[u8],
 ) -> Result<Seq<Piece>, EditFault>
+    requires { is_numbered from.now ≡ false }
     ensures pieces { IfOk result (ArePiecesOf db.now (RenameKey from.now to.now)) }
     ensures allowed { OnOk result (IsAllowedEdit db.now (RenameKey from.now to.now)) }
     ensures refused { IfErr result (IsRefusal db.now (RenameKey from.now to.now)) }

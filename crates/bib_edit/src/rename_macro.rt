@@ -15,8 +15,9 @@ ghost use Rattle.bib_data.specs.declared.edit.Edit.TheVariants.{RenameMacro};
 use crate::defining::{is_given, lone_definition, name_of};
 use crate::fault::EditFault;
 use crate::replacing::{is_result_too_long, push_replaced};
-use bib_scan::{Seq, is_name, one_reading, same_folded};
+use bib_scan::{is_name, one_reading};
 use bib_store::{Database, ItemList, Piece};
+use bib_text::{Seq, same_folded};
 use bib_tokens::{Sought, Token, is_met_before, push_from};
 use std::alloc::Global;
 

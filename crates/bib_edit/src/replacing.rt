@@ -9,8 +9,8 @@ ghost use Rattle.bib_edit.specs.declared.fault.EditFault.TheVariants.{Memory};
 
 use crate::fault::EditFault;
 use crate::limits::is_file_too_long;
-use bib_scan::{Seq, copied};
 use bib_store::{Database, ItemList, Piece};
+use bib_text::{Seq, copied};
 use bib_tokens::Token;
 use std::alloc::Global;
 

@@ -1,9 +1,10 @@
 //! Sets a field of an entry.
 
-ghost use Rattle.std.specs.Prelude.{◌≡◌, ◌++◌, ◌<◌, ◌≤◌, ◌^◌, ◌⊎◌, None, count_by, OnOk, IfOk, IfErr};
+ghost use Rattle.std.specs.Prelude.{◌≡◌, ◌++◌, ◌<◌, ◌≤◌, ◌^◌, ◌⊎◌, None, count_by, OnOk, IfOk, IfErr, false, ◌||◌};
 ghost use Rattle.std.specs.List.{last_or};
 ghost use Rattle.std.specs.Option.{option_map};
 ghost use Rattle.bib_scan.specs.View.{field_seen};
+ghost use Rattle.bib_edit.specs.Numbers.{is_numbered};
 ghost use Rattle.bib_edit.specs.Planning.{IsAllowedEdit, ArePiecesOf, IsRefusal};
 ghost use Rattle.bib_edit.specs.Addressing.{is_field};
 ghost use Rattle.bib_edit.specs.FieldPieces.{IsNamedItem, OfItem, rows_end, row_text, set_piece};
@@ -15,8 +16,9 @@ use crate::fault::EditFault;
 use crate::limits::{are_too_long, is_text_too_long};
 use crate::pieces::one_piece;
 use crate::values::value_parts;
-use bib_scan::{FieldView, ItemView, Seq, Text, copied, is_name};
+use bib_scan::{FieldView, ItemView, is_name};
 use bib_store::{Database, ItemList, Piece};
+use bib_text::{Seq, Text, copied};
 use std::alloc::{AllocError, Global};
 
 /// The pieces that give the field of this entry this value, or the first reason against it.
@@ -27,6 +29,7 @@ pub(crate) fn set_field<L: ItemList>(
     field: &[u8],
     value: &[u8],
 ) -> Result<Seq<Piece>, EditFault>
+    requires { (is_numbered key.now || is_numbered field.now) ≡ false }
     ensures pieces { IfOk result (ArePiecesOf db.now (SetField key.now field.now value.now)) }
     ensures allowed { OnOk result (IsAllowedEdit db.now (SetField key.now field.now value.now)) }
     ensures refused { IfErr result (IsRefusal db.now (SetField key.now field.now value.now)) }
@@ -86,7 +89,7 @@ fn setting<L: ItemList>(
 }
 
 /// The place in the body after the value of the last field, or after the key if there is no field.
-fn rows_end(view: &ItemView<'_>, last: Option<FieldView<'_>>) -> usize
+pub(crate) fn rows_end(view: &ItemView<'_>, last: Option<FieldView<'_>>) -> usize
     requires last { option_map field_seen last ≡ last_or None view.now.fields }
     requires place { rows_end view.now < 2 ^ 64 }
     ensures { result ≡ rows_end view.now }
@@ -98,7 +101,7 @@ fn rows_end(view: &ItemView<'_>, last: Option<FieldView<'_>>) -> usize
 }
 
 /// The bytes of a new field, from the comma before it to the end of its value.
-fn row_text(alloc: Global, name: &[u8], value: &[u8]) -> Result<Text, AllocError>
+pub(crate) fn row_text(alloc: Global, name: &[u8], value: &[u8]) -> Result<Text, AllocError>
     ensures { IfOk result (λ text. text ≡ row_text name.now value.now) }
 {
     let mut text = Vec::new(alloc);

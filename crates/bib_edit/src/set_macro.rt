@@ -1,11 +1,12 @@
 //! Gives a macro another value.
 
-ghost use Rattle.std.specs.Prelude.{◌≡◌, OnOk, IfOk, IfErr};
+ghost use Rattle.std.specs.Prelude.{◌≡◌, OnOk, IfOk, IfErr, false};
 ghost use Rattle.bib_spec.specs.Tree.{Definition};
 ghost use Rattle.bib_scan.specs.Layout.{start_of};
 ghost use Rattle.bib_store.specs.Readings.{OfReading};
 ghost use Rattle.bib_edit.specs.Definitions.{IsDefinitionAt, IsDefinitionNumber};
 ghost use Rattle.bib_edit.specs.MacroValues.{value_piece};
+ghost use Rattle.bib_edit.specs.Numbers.{is_numbered};
 ghost use Rattle.bib_edit.specs.Planning.{IsAllowedEdit, ArePiecesOf, IsRefusal};
 ghost use Rattle.bib_data.specs.declared.edit.Edit.TheVariants.{SetMacro};
 ghost use Rattle.bib_edit.specs.declared.fault.EditFault.TheVariants.{Memory};
@@ -16,8 +17,9 @@ use crate::pieces::one_piece;
 use crate::trying::unless_too_long;
 use crate::unused_values::stays_short;
 use crate::values::is_value;
-use bib_scan::{Seq, copied, is_name, one_reading};
+use bib_scan::{is_name, one_reading};
 use bib_store::{Database, ItemList, Piece};
+use bib_text::{Seq, copied};
 use std::alloc::Global;
 
 /// The piece that gives the macro's one definition this value, or the first reason against it. It looks at items as `push_from`
@@ -29,6 +31,7 @@ pub(crate) fn set_macro<L: ItemList>(
     name: &[u8],
     value: &[u8],
 ) -> Result<Seq<Piece>, EditFault>
+    requires { is_numbered name.now ≡ false }
     ensures pieces { IfOk result (ArePiecesOf db.now (SetMacro name.now value.now)) }
     ensures allowed { OnOk result (IsAllowedEdit db.now (SetMacro name.now value.now)) }
     ensures refused { IfErr result (IsRefusal db.now (SetMacro name.now value.now)) }
@@ -51,7 +54,7 @@ pub(crate) fn set_macro<L: ItemList>(
 }
 
 /// The piece that gives item `n`, which is a definition, this value.
-fn value_piece<L: ItemList>(
+pub(crate) fn value_piece<L: ItemList>(
     alloc: Global,
     db: &Database<L>,
     n: usize,

@@ -1,8 +1,10 @@
 //! Gives an entry another type.
 
-ghost use Rattle.std.specs.Prelude.{◌≡◌, ◌≤◌, length, OnOk, IfOk, IfErr};
+ghost use Rattle.std.specs.Prelude.{◌≡◌, ◌≤◌, length, OnOk, IfOk, IfErr, false};
+ghost use Rattle.bib_edit.specs.Numbers.{is_numbered};
 ghost use Rattle.bib_edit.specs.Planning.{IsAllowedEdit, ArePiecesOf, IsRefusal};
-ghost use Rattle.bib_edit.specs.FieldPieces.{IsNamedItem, OfItem};
+ghost use Rattle.bib_store.specs.Readings.{IsItemNumber};
+ghost use Rattle.bib_edit.specs.FieldPieces.{OfItem};
 ghost use Rattle.bib_edit.specs.TypePieces.{type_place, type_piece};
 ghost use Rattle.bib_data.specs.declared.edit.Edit.TheVariants.{SetType};
 ghost use Rattle.bib_edit.specs.declared.fault.EditFault.TheVariants.{Memory};
@@ -11,8 +13,9 @@ use crate::address::lone_entry;
 use crate::fault::EditFault;
 use crate::limits::are_too_long;
 use crate::pieces::one_piece;
-use bib_scan::{Seq, copied, is_type};
+use bib_scan::is_type;
 use bib_store::{Database, ItemList, Piece};
+use bib_text::{Seq, copied};
 use std::alloc::Global;
 
 /// The pieces that give this entry this type, or the first reason against it. It takes time in the length of the entry's
@@ -23,6 +26,7 @@ pub(crate) fn set_type<L: ItemList>(
     key: &[u8],
     kind_name: &[u8],
 ) -> Result<Seq<Piece>, EditFault>
+    requires { is_numbered key.now ≡ false }
     ensures pieces { IfOk result (ArePiecesOf db.now (SetType key.now kind_name.now)) }
     ensures allowed { OnOk result (IsAllowedEdit db.now (SetType key.now kind_name.now)) }
     ensures refused { IfErr result (IsRefusal db.now (SetType key.now kind_name.now)) }
@@ -41,13 +45,13 @@ pub(crate) fn set_type<L: ItemList>(
 }
 
 /// The piece that gives item `n`, which is an entry, this type.
-fn typing<L: ItemList>(
+pub(crate) fn typing<L: ItemList>(
     alloc: Global,
     db: &Database<L>,
     n: usize,
     kind_name: &[u8],
 ) -> Result<Piece, EditFault>
-    requires { IsNamedItem db.now n }
+    requires { IsItemNumber db.now n }
     ensures piece { IfOk result (λ p. OfItem db.now n (λ start view. p ≡ type_piece start view kind_name.now)) }
     ensures only { IfErr result (λ fault. fault ≡ Memory) }
 {

@@ -9,8 +9,9 @@ ghost use Rattle.bib_edit.specs.Removal.{body_at, is_after_comment, text_before,
 ghost use Rattle.bib_edit.specs.declared.fault.EditFault.TheVariants.{Memory};
 
 use crate::fault::EditFault;
-use bib_scan::{ItemView, Kind, Seq, copied, is_clean_trail};
+use bib_scan::{ItemView, Kind, is_clean_trail};
 use bib_store::{Database, ItemList, Piece};
+use bib_text::{Seq, copied};
 use std::alloc::Global;
 
 /// Whether the item is a comment.

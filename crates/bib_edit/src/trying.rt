@@ -10,8 +10,8 @@ ghost use Rattle.bib_edit.specs.declared.fault.EditFault.TheVariants.{Memory};
 
 use crate::fault::EditFault;
 use crate::limits::are_too_long;
-use bib_scan::Seq;
 use bib_store::{Database, ItemList, Paged, Piece, StoreFault};
+use bib_text::Seq;
 use std::alloc::Global;
 
 /// Closes a copy.

@@ -1,9 +1,10 @@
 //! Takes the definition of a macro out.
 
-ghost use Rattle.std.specs.Prelude.{◌≡◌, OnOk, IfOk, IfErr};
+ghost use Rattle.std.specs.Prelude.{◌≡◌, OnOk, IfOk, IfErr, false};
 ghost use Rattle.edit_spec.specs.Edits.{is_seen};
 ghost use Rattle.bib_store.specs.Readings.{OfReading};
 ghost use Rattle.bib_edit.specs.Definitions.{IsDefinedAt};
+ghost use Rattle.bib_edit.specs.Numbers.{is_numbered};
 ghost use Rattle.bib_edit.specs.Planning.{IsAllowedEdit, ArePiecesOf, IsRefusal};
 ghost use Rattle.bib_data.specs.declared.edit.Edit.TheVariants.{UndefineMacro};
 ghost use Rattle.bib_edit.specs.declared.fault.EditFault.TheVariants.{Memory};
@@ -12,8 +13,9 @@ use crate::defining::lone_definition;
 use crate::fault::EditFault;
 use crate::pieces::one_piece;
 use crate::taking_out::{joins_cleanly, removal_of};
-use bib_scan::{Seq, is_name, one_reading};
+use bib_scan::{is_name, one_reading};
 use bib_store::{Database, ItemList, Piece};
+use bib_text::Seq;
 use bib_tokens::{Sought, push_from};
 use std::alloc::Global;
 
@@ -24,6 +26,7 @@ pub(crate) fn undefine_macro<L: ItemList>(
     db: &Database<L>,
     name: &[u8],
 ) -> Result<Seq<Piece>, EditFault>
+    requires { is_numbered name.now ≡ false }
     ensures pieces { IfOk result (ArePiecesOf db.now (UndefineMacro name.now)) }
     ensures allowed { OnOk result (IsAllowedEdit db.now (UndefineMacro name.now)) }
     ensures refused { IfErr result (IsRefusal db.now (UndefineMacro name.now)) }

@@ -8,8 +8,8 @@ ghost use Rattle.bib_keys.specs.TakenKeys.{taken_in};
 ghost use Rattle.bib_edit.specs.declared.fault.EditFault.TheVariants.{Memory};
 
 use crate::fault::EditFault;
-use bib_scan::{Seq, Text};
 use bib_store::{Database, ItemList};
+use bib_text::{Seq, Text};
 use std::alloc::Global;
 
 /// The first free one of these: the base, the base with `a`, .. with `z`, with `aa` and so on. Without regard to ASCII

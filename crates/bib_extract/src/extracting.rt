@@ -16,8 +16,9 @@ use crate::entries::kept_entries;
 use crate::fault::ExtractFault;
 use crate::items::kept_items;
 use crate::writing::marked_bytes;
-use bib_scan::{FILE_LIMIT, Seq, Text};
+use bib_scan::FILE_LIMIT;
 use bib_store::{Database, ItemList};
+use bib_text::{Seq, Text};
 use std::alloc::{AllocError, Global};
 
 /// For each item whether it is kept for these keys.

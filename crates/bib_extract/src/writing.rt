@@ -9,9 +9,9 @@ ghost use Rattle.bib_store.specs.Readings.{OfReading, IsItemNumber};
 ghost use Rattle.extract_spec.specs.Extract.{space_of, on_its_line};
 ghost use Rattle.bib_extract.specs.Written.{marked_bytes};
 
-use bib_scan::{ItemView, Text};
+use bib_scan::ItemView;
 use bib_store::{Database, ItemList};
-use bib_text::is_space;
+use bib_text::{Text, is_space};
 use std::alloc::{AllocError, Global};
 
 /// How many bytes of white space the text begins with.

@@ -6,7 +6,8 @@ ghost use Rattle.bib_spec.specs.Reading.{HasReading};
 ghost use Rattle.bib_faults.specs.GoingOn.{Fault, IsFirstFault, Faults};
 ghost use Rattle.bib_faults.specs.Told.{told, IsUnlisted};
 
-use bib_scan::{FILE_LIMIT, ReadFault, Seq, read};
+use bib_scan::{FILE_LIMIT, ReadFault, read};
+use bib_text::Seq;
 use std::alloc::Global;
 
 /// The first fault of a text, if it has one.

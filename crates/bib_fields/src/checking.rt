@@ -21,9 +21,9 @@ use crate::mix::{Mix, MixedRow, RowOf, Side};
 use crate::of_three::is_of_three;
 use crate::version::{Version, version_of};
 use bib_sayings::FieldTable;
-use bib_scan::{FieldView, ItemView, NAME_LIMIT, same_folded};
+use bib_scan::{FieldView, ItemView};
 use bib_store::{Database, ItemList, MacrosAt};
-use bib_text::is_space;
+use bib_text::{NAME_LIMIT, is_space, same_folded};
 use folded_map::FoldedMap;
 use std::alloc::{AllocError, Global};
 

@@ -17,9 +17,9 @@ ghost use Rattle.bib_fields.specs.PartsSeen.{part_seen, told};
 
 use crate::of_three::is_in_conflict;
 use crate::version::{Version, version_of};
-use bib_scan::{FieldView, ItemView, same_folded};
+use bib_scan::{FieldView, ItemView};
 use bib_store::{Database, ItemList, MacrosAt};
-use bib_text::{Seq, Text};
+use bib_text::{Seq, Text, same_folded};
 use std::alloc::{AllocError, Global};
 
 /// A part of an entry that both sides changed.

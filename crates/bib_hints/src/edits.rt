@@ -4,14 +4,13 @@ use crate::items::{
     Item, definitions, field_of, holders, is_definition_of, items_of, line_of, place_of_use,
 };
 use crate::lines::Lines;
+use crate::numbers::{entries_meant, hint_unmet_entry, which_of};
 use crate::parts::Part;
-use crate::positions::{
-    hint_insert_position, hint_no_entry, hint_number, hint_positions, hint_twice, key_in,
-};
+use crate::positions::{hint_insert_position, hint_number, hint_positions, hint_twice, key_in};
 use crate::renamed_fields::{hint_clashes, hint_field_names, hint_unnamed_field};
 use crate::verbs::{VERBS, form_of, is_month};
-use bib_scan::{ItemView, Kind, is_balanced, is_name, is_type, read_value, same_folded};
-use bib_text::trimmed;
+use bib_scan::{ItemView, Kind, is_balanced, is_name, is_type, read_value};
+use bib_text::{same_folded, trimmed};
 use std::alloc::AllocError;
 
 /// So many entries that refer to an entry are named.
@@ -145,12 +144,14 @@ fn hint_name(lines: &mut Lines, edit: &Edit<'_>) -> Result<(), AllocError> {
     if edit.is_named(b"add") {
         return hint_added_name(lines, edit);
     }
-    if names_macro_first(edit) {
+    let is_first = names_macro_first(edit)
+        || edit.is_named(b"rename-macro") && !is_name(edit.word(1));
+    if is_first {
         let parts = [Part::Name(edit.word(1))];
         return lines.say(b"% can be no name of a macro", &parts);
     }
     let parts = [Part::Name(edit.word(2))];
-    if edit.is_named(b"set") {
+    if edit.is_named(b"set") || edit.is_named(b"drop") {
         return lines.say(b"% can be no name of a field", &parts);
     }
     lines.say(b"% can be no name of a macro", &parts)
@@ -246,24 +247,34 @@ fn hint_missing(lines: &mut Lines, edit: &Edit<'_>) -> Result<(), AllocError> {
     }
     let items = items_of(lines.alloc(), edit.file)?;
     if let Some(key) = key_beside(edit) {
-        if holders(lines.alloc(), items.as_slice(), key)?.is_empty() {
-            return hint_no_entry(lines, edit.name, key);
+        if entries_meant(lines.alloc(), items.as_slice(), key)?.is_empty() {
+            return hint_unmet_entry(lines, edit, items.as_slice(), key);
         }
     }
-    let found = holders(lines.alloc(), items.as_slice(), edit.word(1))?;
+    let found = entries_meant(lines.alloc(), items.as_slice(), edit.word(1))?;
     if found.is_empty() {
-        return hint_no_entry(lines, edit.name, edit.word(1));
+        return hint_unmet_entry(lines, edit, items.as_slice(), edit.word(1));
     }
     hint_missing_field(lines, edit)
 }
 
 fn hint_missing_field(lines: &mut Lines, edit: &Edit<'_>) -> Result<(), AllocError> {
-    let parts = [Part::Name(edit.word(1)), Part::Name(edit.word(2))];
+    hint_no_field(lines, edit.name, edit.word(1), edit.word(2))
+}
+
+/// That the entry has no such field; how its fields are printed, if no number tells which of several it is.
+pub fn hint_no_field<'a>(
+    lines: &mut Lines,
+    name: &'a [u8],
+    key: &'a [u8],
+    field: &'a [u8],
+) -> Result<(), AllocError> {
+    let parts = [Part::Name(key), Part::Name(field)];
     lines.say(b"the entry % has no field % of its own", &parts)?;
-    let typed = [
-        Part::Typed(edit.name, b"F"),
-        Part::Typed(edit.word(1), b"KEY"),
-    ];
+    if which_of(key).number.is_some() {
+        return Ok(());
+    }
+    let typed = [Part::Typed(name, b"F"), Part::Typed(key, b"KEY")];
     lines.say(
         b"bibkeep show % % prints its fields; change an inherited one in the parent",
         &typed,
@@ -271,8 +282,15 @@ fn hint_missing_field(lines: &mut Lines, edit: &Edit<'_>) -> Result<(), AllocErr
 }
 
 fn hint_missing_macro(lines: &mut Lines, edit: &Edit<'_>) -> Result<(), AllocError> {
-    let parts = [Part::Name(edit.name), Part::Name(edit.word(1))];
-    if is_month(edit.word(1)) {
+    let name = which_of(edit.word(1)).name;
+    let parts = [Part::Name(edit.name), Part::Name(name)];
+    let items = items_of(lines.alloc(), edit.file)?;
+    let found = definitions(lines.alloc(), items.as_slice(), name)?;
+    if !found.is_empty() {
+        let counted = [parts[0], parts[1], Part::Count(found.len())];
+        return lines.say(b"definitions in % of the macro %: %", &counted);
+    }
+    if is_month(name) {
         return lines.say(b"% does not define the month %, and need not", &parts);
     }
     lines.say(b"% does not define the macro %", &parts)?;
@@ -290,7 +308,7 @@ fn hint_ambiguous(lines: &mut Lines, edit: &Edit<'_>) -> Result<(), AllocError> 
         return hint_macro_twice(lines, edit, items.as_slice());
     }
     if let Some(key) = key_beside(edit) {
-        let found = holders(alloc, items.as_slice(), key)?;
+        let found = entries_meant(alloc, items.as_slice(), key)?;
         if found.len() > 1 {
             return hint_key_twice(lines, edit, key, found.as_slice());
         }
@@ -298,7 +316,7 @@ fn hint_ambiguous(lines: &mut Lines, edit: &Edit<'_>) -> Result<(), AllocError> 
     if edit.is_named(b"add") {
         return lines.say(b"the new entry has a field twice", &[]);
     }
-    let found = holders(alloc, items.as_slice(), edit.word(1))?;
+    let found = entries_meant(alloc, items.as_slice(), edit.word(1))?;
     match found.as_slice() {
         [only] => hint_field_twice(lines, edit, only),
         many => hint_key_twice(lines, edit, edit.word(1), many),
@@ -315,25 +333,33 @@ fn hint_macro_twice(
     let found = definitions(lines.alloc(), items, name)?;
     let words = b"the macro % is defined % times: lines % and %";
     hint_twice(lines, words, name, edit.file, found.as_slice())?;
-    hint_by_hand(lines, edit)
+    let parts = [
+        Part::Name(name),
+        Part::Typed(edit.name, b"F"),
+        Part::Typed(name, b"NAME"),
+    ];
+    lines.say(
+        b"%,2 is the second; to remove it, type: bibkeep edit % undefine %,2",
+        &parts,
+    )
 }
 
 /// Where the entries are that have the same key.
-pub fn hint_key_twice(
+pub fn hint_key_twice<'a>(
     lines: &mut Lines,
-    edit: &Edit<'_>,
-    key: &[u8],
+    edit: &Edit<'a>,
+    key: &'a [u8],
     items: &[Item<'_>],
 ) -> Result<(), AllocError> {
     let words = b"the key % is that of % entries: lines % and %";
     hint_twice(lines, words, key, edit.file, items)?;
-    hint_by_hand(lines, edit)
-}
-
-fn hint_by_hand(lines: &mut Lines, edit: &Edit<'_>) -> Result<(), AllocError> {
-    let parts = [Part::Typed(edit.name, b"F")];
+    let parts = [
+        Part::Name(key),
+        Part::Typed(edit.name, b"F"),
+        Part::Typed(key, b"KEY"),
+    ];
     lines.say(
-        b"remove one of the two in an editor, and then type: bibkeep forget %",
+        b"%,2 is the second; to remove it, type: bibkeep edit % remove %,2",
         &parts,
     )
 }
@@ -353,12 +379,25 @@ fn hint_field_twice(lines: &mut Lines, edit: &Edit<'_>, item: &Item<'_>) -> Resu
                         Part::Count(line),
                     ];
                     lines.say(b"the entry % has the field % twice: lines % and %", &parts)?;
-                    return hint_by_hand(lines, edit);
+                    return hint_second_field(lines, edit);
                 }
             }
         }
     }
     Ok(())
+}
+
+fn hint_second_field(lines: &mut Lines, edit: &Edit<'_>) -> Result<(), AllocError> {
+    let parts = [
+        Part::Name(edit.word(2)),
+        Part::Typed(edit.name, b"F"),
+        Part::Typed(edit.word(1), b"KEY"),
+        Part::Typed(edit.word(2), b"FIELD"),
+    ];
+    lines.say(
+        b"%,2 is the second; to remove it, type: bibkeep edit % drop % %,2",
+        &parts,
+    )
 }
 
 fn hint_key_in_use(lines: &mut Lines, edit: &Edit<'_>) -> Result<(), AllocError> {
@@ -454,17 +493,18 @@ fn hint_referred(lines: &mut Lines, edit: &Edit<'_>) -> Result<(), AllocError> {
     }
     let alloc = lines.alloc();
     let items = items_of(alloc, edit.file)?;
+    let key = which_of(edit.word(1)).name;
     let mut count = 0usize;
     let mut last = b"".as_slice();
     'items: for item in items.as_slice() {
-        if is_child_of(item, edit.word(1)) {
+        if is_child_of(item, key) {
             count = count.saturating_add(1);
             if count <= NAMED {
                 last = item.key;
                 let parts = [
                     Part::Name(item.key),
                     Part::Count(line_of(edit.file, item.start)),
-                    Part::Name(edit.word(1)),
+                    Part::Name(key),
                 ];
                 lines.say(b"the crossref of % in line % names %", &parts)?;
             }
@@ -485,12 +525,15 @@ fn hint_referred(lines: &mut Lines, edit: &Edit<'_>) -> Result<(), AllocError> {
 fn hint_used(lines: &mut Lines, edit: &Edit<'_>) -> Result<(), AllocError> {
     let alloc = lines.alloc();
     let items = items_of(alloc, edit.file)?;
-    let name = edit.word(1);
-    let mut is_defined = false;
+    let which = which_of(edit.word(1));
+    let name = which.name;
+    let mut met = 0usize;
     let mut count = 0usize;
     'items: for item in items.as_slice() {
-        if let Some(place) = place_of_use(alloc, item, name)? {
-            if is_defined {
+        if is_definition_of(item, name) {
+            met = met.saturating_add(1);
+        } else if met == which.number.unwrap_or(1) {
+            if let Some(place) = place_of_use(alloc, item, name)? {
                 count = count.saturating_add(1);
                 if count <= NAMED {
                     let line = line_of(edit.file, item.start.saturating_add(place));
@@ -499,11 +542,13 @@ fn hint_used(lines: &mut Lines, edit: &Edit<'_>) -> Result<(), AllocError> {
                 }
             }
         }
-        is_defined = is_defined || is_definition_of(item, name);
     }
     if count > NAMED {
         let parts = [Part::Count(count - NAMED)];
         lines.say(b"and % more", &parts)?;
+    }
+    if which.number.is_some() {
+        return Ok(());
     }
     let parts = [Part::Typed(edit.name, b"F"), Part::Typed(name, b"NAME")];
     lines.say(

@@ -2,9 +2,8 @@
 
 ghost use Rattle.bib_scan.specs.ValueParts.{IsPartsOf};
 
-use bib_scan::{
-    FieldView, ItemView, Kind, NAME_LIMIT, Part, Parts, Reader, read_value, same_folded,
-};
+use bib_scan::{FieldView, ItemView, Kind, Part, Parts, Reader, read_value};
+use bib_text::{NAME_LIMIT, same_folded};
 use folded_map::FoldedMap;
 use memchr::memrchr;
 use std::alloc::{AllocError, Global};

@@ -38,5 +38,6 @@ pub fn hint_unknown_keys(lines: &mut Lines, asked: &Asked<'_>) -> Result<(), All
 
 /// Whether the word is `*` of a list of keys, which cites every entry as BibTeX reads it, whatever else the list has.
 fn is_star_among(asked: &Asked<'_>, word: &[u8]) -> bool {
-    asked.command.bibtex && !asked.command.is_named(b"show") && word == b"*".as_slice()
+    let is_list = !asked.command.is_named(b"show") && !asked.command.is_named(b"names");
+    asked.command.bibtex && is_list && word == b"*".as_slice()
 }

@@ -13,6 +13,7 @@ mod items;
 mod keys;
 mod lines;
 mod notes;
+mod numbers;
 mod parts;
 mod positions;
 mod renamed_fields;

@@ -1,8 +1,9 @@
 //! Notes on a run that was not refused.
 
 use crate::asking::Asked;
-use crate::items::{Item, definitions, holders, items_of};
+use crate::items::{Item, definitions, items_of};
 use crate::lines::Lines;
+use crate::numbers::entries_meant;
 use crate::parts::Part;
 use crate::script::words_in;
 use crate::verbs::is_month;
@@ -139,7 +140,7 @@ fn note_set(
     }
     let alloc = lines.alloc();
     let items = items_of(alloc, present)?;
-    let found = holders(alloc, items.as_slice(), key)?;
+    let found = entries_meant(alloc, items.as_slice(), key)?;
     let Some(entry) = found.as_slice().first() else {
         return Ok(());
     };

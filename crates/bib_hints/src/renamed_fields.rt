@@ -1,11 +1,12 @@
 //! Edits that were to give fields another name.
 
-use crate::edits::{Edit, NAMED, hint_key_twice};
-use crate::items::{Item, holders, items_of, line_of};
+use crate::edits::{Edit, NAMED, hint_key_twice, hint_no_field};
+use crate::items::{Item, items_of, line_of};
 use crate::lines::Lines;
+use crate::numbers::{entries_meant, hint_unmet_entry};
 use crate::parts::Part;
-use crate::positions::hint_no_entry;
-use bib_scan::{ItemView, Kind, is_name, same_folded};
+use bib_scan::{ItemView, Kind, is_name};
+use bib_text::same_folded;
 use std::alloc::AllocError;
 
 /// The first of the two names that is refused.
@@ -45,16 +46,10 @@ pub fn hint_unnamed_field(lines: &mut Lines, edit: &Edit<'_>) -> Result<(), Allo
     }
     let key = edit.word(3);
     let items = items_of(lines.alloc(), edit.file)?;
-    if holders(lines.alloc(), items.as_slice(), key)?.is_empty() {
-        return hint_no_entry(lines, edit.name, key);
+    if entries_meant(lines.alloc(), items.as_slice(), key)?.is_empty() {
+        return hint_unmet_entry(lines, edit, items.as_slice(), key);
     }
-    let parts = [Part::Name(key), Part::Name(edit.word(1))];
-    lines.say(b"the entry % has no field % of its own", &parts)?;
-    let typed = [Part::Typed(edit.name, b"F"), Part::Typed(key, b"KEY")];
-    lines.say(
-        b"bibkeep show % % prints its fields; change an inherited one in the parent",
-        &typed,
-    )
+    hint_no_field(lines, edit.name, key, edit.word(1))
 }
 
 /// Where the entries are that would have two fields of the new name, or that have the same key.
@@ -64,7 +59,7 @@ pub fn hint_clashes(lines: &mut Lines, edit: &Edit<'_>) -> Result<(), AllocError
     if !has_key(edit) {
         return hint_clashes_among(lines, edit, items.as_slice());
     }
-    let found = holders(alloc, items.as_slice(), edit.word(3))?;
+    let found = entries_meant(alloc, items.as_slice(), edit.word(3))?;
     if found.len() > 1 {
         return hint_key_twice(lines, edit, edit.word(3), found.as_slice());
     }

@@ -5,7 +5,7 @@ ghost use Rattle.memchr.specs.Find.{IsFirstByte, is_byte2};
 ghost use Rattle.bib_spec.specs.Text.{Text as Bytes, same};
 ghost use Rattle.bib_items.specs.Glancing.{LacksWord};
 
-use bib_scan::same_folded;
+use bib_text::same_folded;
 use memchr::arch::all::packedpair::{DefaultFrequencyRank, HeuristicFrequencyRank, Pair};
 use memchr::{memchr, memchr2};
 

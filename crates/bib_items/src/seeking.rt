@@ -5,7 +5,8 @@ ghost use Rattle.bib_scan.specs.PartView.{part_view};
 ghost use Rattle.part_spec.specs.Parts.{uses, holds};
 ghost use Rattle.bib_items.specs.Seeking.{test_of};
 
-use bib_scan::{Part, same_folded};
+use bib_scan::Part;
+use bib_text::same_folded;
 
 /// Which parts are sought.
 #[derive(Clone, Copy, Debug)]

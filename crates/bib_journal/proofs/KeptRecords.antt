@@ -3,12 +3,16 @@ use Rattle.bib_journal.proofs.Words.{◌≡◌, ◌≢◌, ℕ, zero, suc, Bool,
 use Rattle.bib_journal.proofs.Words.{RemoveEntry, MoveEntry, RenameKey, RegenerateKeys, RenameMacro, InlineMacro, IntroduceMacro, SetType, UndefineMacro, RenameField, DefineMacro, SetMacro, Request, EditFault, made_base, AsksFor, OfEdit, asked_for, has_key_base, SessionState, DoesAll, OfReadings}
 use Rattle.std.proofs.Common.{◌&&◌, option_map, slice_get}
 use Rattle.std.specs.List.{list_all}
-use Rattle.std.proofs.lemmas.Bool.{and_parts}
+use Rattle.std.proofs.Common.{⊎_elim}
+use Rattle.std.proofs.lemmas.Bool.{and_parts, cases_Bool, cond-true, cond-false, both_ways}
 use Rattle.bib_spec.specs.Records.{Record, entries_of, entry_named, expanded}
 use Rattle.bib_spec.specs.MadeKeys.{IsKeyBase, new_keys}
 use Rattle.edit_spec.specs.Edits as edits
 use Rattle.edit_spec.specs.Edits.{edited, key_for}
-use Rattle.edit_spec.specs.Laws.{KeepsEntries, record_with_key, no_new_key}
+use Rattle.edit_spec.specs.Laws.{KeepsEntries, KeepsMacros, KeepsCitations, KeepsCitationsByKey, KeepsAllButTypes, KeepsAllButNames, KeepsAllButUsers, type_for, is_renamed_in, dependents, record_with_key, no_new_key}
+use Rattle.edit_spec.specs.OtherLaws.{is_meant}
+use Rattle.edit_spec.proofs.OneEntry.{rename-one-key-keeps, set-one-type-keeps, rename-fields-of-one-keeps}
+use Rattle.edit_spec.proofs.OneDefinition.{set-one-definition-keeps, undefine-one-keeps}
 use Rattle.edit_spec.proofs.RenameKey.{rename-key-keeps}
 use Rattle.edit_spec.proofs.Regenerate.{regenerate-keys-keeps, made-keys-differ, regenerating-again}
 use Rattle.edit_spec.proofs.SetType.{set-type-keeps}
@@ -21,7 +25,9 @@ use Rattle.bib_data.specs.declared.request.Request.TheVariants as request
 use Rattle.bib_edit.specs.declared.fault.EditFault.TheVariants as edit_fault
 use Rattle.bib_edit.specs.Asking.{rename_key, regenerate_keys, rename_macro, inline_macro, introduce_macro, set_type, undefine_macro, rename_field, define_macro, set_macro}
 use Rattle.bib_edit.specs.Planning.{IsRefusal}
-use Rattle.bib_edit.proofs.AskedEdits.{some_value}
+use Rattle.bib_edit.specs.Numbers.{is_numbered, which_of}
+use Rattle.bib_edit.specs.Asking.{asked_key, asked_type, asked_fields, asked_undefine, asked_macro, entry_asked, name_asked}
+use Rattle.bib_edit.proofs.AskedEdits.{some_value, which-plain}
 use Rattle.bib_journal.proofs.MadeFiles.{moved_present, made-reads, of-made}
 use Rattle.bib_journal.specs.Renaming.{Keeps, edit_keeps, keys_are_made_once, is_renaming, without_key, KeepsTexts, requests_keep}
 
@@ -32,8 +38,24 @@ is_base = has_key_base (edits.RegenerateKeys 1)
 
 -- what an accepted edit makes keeps what the edit keeps
 made-keeps : (edit : Edit) (db db' : Reading) → OfEdit edit (IsAccepted made_base db) → OfEdit edit (λ e. db' ≡ edited made_base db e) → Keeps edit db db'
-made-keeps (RenameKey from to) db db' allowed is =
-    subst (Keeps (RenameKey from to) db) (sym (is (edits.RenameKey from to) (rename_key from to))) (rename-key-keeps made_base db from to (allowed (edits.RenameKey from to) (rename_key from to)))
+made-keeps (RenameKey from to) db db' allowed is = ⊎_elim
+    (λ t.
+    let e : edits.Edit = edits.ChangeEntry (which_of from) (edits.RenamesKey to) in
+    let told : asked_key from to ≡ e = cond-true (is_numbered from) e (edits.RenameKey from to) t in
+    let meant = cond-true (is_numbered from) (edits.entry_meant (which_of from) (entries_of db)) (entry_named (entries_of db) from) t in
+    subst (λ (o : Option ℕ). KeepsEntries (key_for o to) db db' × KeepsMacros db db' × KeepsCitationsByKey db db') (sym meant)
+    (subst (λ (new : Reading). KeepsEntries (key_for (edits.entry_meant (which_of from) (entries_of db)) to) db new × KeepsMacros db new × KeepsCitationsByKey db new)
+    (sym (is (asked_key from to) (rename_key from to) ∙ ap (edited made_base db) told))
+    (rename-one-key-keeps made_base db (which_of from) to (subst (IsAccepted made_base db) told (allowed (asked_key from to) (rename_key from to))))))
+    (λ f.
+    let e : edits.Edit = edits.RenameKey from to in
+    let told : asked_key from to ≡ e = cond-false (is_numbered from) (edits.ChangeEntry (which_of from) (edits.RenamesKey to)) e f in
+    let meant = cond-false (is_numbered from) (edits.entry_meant (which_of from) (entries_of db)) (entry_named (entries_of db) from) f in
+    subst (λ (o : Option ℕ). KeepsEntries (key_for o to) db db' × KeepsMacros db db' × KeepsCitationsByKey db db') (sym meant)
+    (subst (λ (new : Reading). KeepsEntries (key_for (entry_named (entries_of db) from) to) db new × KeepsMacros db new × KeepsCitationsByKey db new)
+    (sym (is (asked_key from to) (rename_key from to) ∙ ap (edited made_base db) told))
+    (rename-key-keeps made_base db from to (subst (IsAccepted made_base db) told (allowed (asked_key from to) (rename_key from to))))))
+    (cases_Bool (is_numbered from))
 made-keeps (RegenerateKeys depth) db db' allowed is =
     let accepted = allowed (edits.RegenerateKeys depth) (regenerate_keys depth) in
     let keeps = regenerate-keys-keeps made_base is_base db depth accepted in
@@ -46,21 +68,85 @@ made-keeps (InlineMacro name) db db' allowed is =
 made-keeps (IntroduceMacro name text) db db' allowed is =
     subst (Keeps (IntroduceMacro name text) db) (sym (is (edits.IntroduceMacro name text) (introduce_macro name text)))
     (introduce-macro-keeps made_base db name text (allowed (edits.IntroduceMacro name text) (introduce_macro name text)))
-made-keeps (SetType key kind_name) db db' allowed is =
-    subst (Keeps (SetType key kind_name) db) (sym (is (edits.SetType key kind_name) (set_type key kind_name))) (set-type-keeps made_base db key kind_name (allowed (edits.SetType key kind_name) (set_type key kind_name)))
-made-keeps (UndefineMacro name) db db' allowed is =
-    subst (Keeps (UndefineMacro name) db) (sym (is (edits.UndefineMacro name) (undefine_macro name))) (undefine-macro-keeps made_base db name (allowed (edits.UndefineMacro name) (undefine_macro name)))
-made-keeps (RenameField from to key) db db' allowed is =
-    subst (Keeps (RenameField from to key) db) (sym (is (edits.RenameField from to key) (rename_field from to key)))
-    (rename-field-keeps made_base db from to key (allowed (edits.RenameField from to key) (rename_field from to key)))
+made-keeps (SetType key kind_name) db db' allowed is = ⊎_elim
+    (λ t.
+    let e : edits.Edit = edits.ChangeEntry (which_of key) (edits.SetsType kind_name) in
+    let told : asked_type key kind_name ≡ e = cond-true (is_numbered key) e (edits.SetType key kind_name) t in
+    let meant = cond-true (is_numbered key) (edits.entry_meant (which_of key) (entries_of db)) (entry_named (entries_of db) key) t in
+    subst (λ (o : Option ℕ). KeepsAllButTypes (type_for o kind_name) db db' × KeepsMacros db db' × KeepsCitations db db') (sym meant)
+    (subst (λ (new : Reading). KeepsAllButTypes (type_for (edits.entry_meant (which_of key) (entries_of db)) kind_name) db new × KeepsMacros db new × KeepsCitations db new)
+    (sym (is (asked_type key kind_name) (set_type key kind_name) ∙ ap (edited made_base db) told))
+    (set-one-type-keeps made_base db (which_of key) kind_name (subst (IsAccepted made_base db) told (allowed (asked_type key kind_name) (set_type key kind_name))))))
+    (λ f.
+    let e : edits.Edit = edits.SetType key kind_name in
+    let told : asked_type key kind_name ≡ e = cond-false (is_numbered key) (edits.ChangeEntry (which_of key) (edits.SetsType kind_name)) e f in
+    let meant = cond-false (is_numbered key) (edits.entry_meant (which_of key) (entries_of db)) (entry_named (entries_of db) key) f in
+    subst (λ (o : Option ℕ). KeepsAllButTypes (type_for o kind_name) db db' × KeepsMacros db db' × KeepsCitations db db') (sym meant)
+    (subst (λ (new : Reading). KeepsAllButTypes (type_for (entry_named (entries_of db) key) kind_name) db new × KeepsMacros db new × KeepsCitations db new)
+    (sym (is (asked_type key kind_name) (set_type key kind_name) ∙ ap (edited made_base db) told))
+    (set-type-keeps made_base db key kind_name (subst (IsAccepted made_base db) told (allowed (asked_type key kind_name) (set_type key kind_name))))))
+    (cases_Bool (is_numbered key))
+made-keeps (UndefineMacro name) db db' allowed is = ⊎_elim
+    (λ t.
+    let which : edits.Which = which_of name in
+    let e : edits.Edit = edits.ChangeDefinition which.name (edits.number_of which) edits.Undefines in
+    let told : asked_undefine name ≡ e = cond-true (is_numbered name) e (edits.UndefineMacro name) t in
+    let kept = undefine-one-keeps made_base db which.name (edits.number_of which) (subst (IsAccepted made_base db) told (allowed (asked_undefine name) (undefine_macro name))) in
+    let made : db' ≡ edited made_base db e = is (asked_undefine name) (undefine_macro name) ∙ ap (edited made_base db) told in
+    subst (Keeps (UndefineMacro name) db) (sym made)
+    (kept.2.0, kept.2.1, record { alone = λ f. absurd (both_ways (is_numbered name) f t); one = λ _. (kept.0, kept.1, kept.2.2) }))
+    (λ f.
+    let e : edits.Edit = edits.UndefineMacro name in
+    let told : asked_undefine name ≡ e = cond-false (is_numbered name) (edits.ChangeDefinition (which_of name).name (edits.number_of (which_of name)) edits.Undefines) e f in
+    let kept = undefine-macro-keeps made_base db name (subst (IsAccepted made_base db) told (allowed (asked_undefine name) (undefine_macro name))) in
+    let made : db' ≡ edited made_base db e = is (asked_undefine name) (undefine_macro name) ∙ ap (edited made_base db) told in
+    subst (Keeps (UndefineMacro name) db) (sym made)
+    (kept.0, kept.1, record { alone = λ _. kept.2; one = λ t. absurd (both_ways (is_numbered name) f t) }))
+    (cases_Bool (is_numbered name))
+made-keeps (RenameField from to None) db db' allowed is =
+    subst (Keeps (RenameField from to None) db) (sym (is (edits.RenameField from to None) (rename_field from to None)))
+    (rename-field-keeps made_base db from to None (allowed (edits.RenameField from to None) (rename_field from to None)))
+made-keeps (RenameField from to (Some key)) db db' allowed is = ⊎_elim
+    (λ t.
+    let e : edits.Edit = edits.ChangeEntry (which_of key) (edits.RenamesFields from to) in
+    let told : asked_fields from to (Some key) ≡ e = cond-true (is_numbered key) e (edits.RenameField from to (Some key)) t in
+    let meant = cond-true (is_numbered key) (edits.entry_meant (which_of key) (entries_of db)) (entry_named (entries_of db) key) t in
+    subst (λ (o : Option ℕ). KeepsAllButNames from to (is_meant o) db db' × KeepsMacros db db' × KeepsCitations db db') (sym meant)
+    (subst (λ (new : Reading). KeepsAllButNames from to (is_meant (edits.entry_meant (which_of key) (entries_of db))) db new × KeepsMacros db new × KeepsCitations db new)
+    (sym (is (asked_fields from to (Some key)) (rename_field from to (Some key)) ∙ ap (edited made_base db) told))
+    (rename-fields-of-one-keeps made_base db (which_of key) from to (subst (IsAccepted made_base db) told (allowed (asked_fields from to (Some key)) (rename_field from to (Some key)))))))
+    (λ f.
+    let e : edits.Edit = edits.RenameField from to (Some key) in
+    let told : asked_fields from to (Some key) ≡ e = cond-false (is_numbered key) (edits.ChangeEntry (which_of key) (edits.RenamesFields from to)) e f in
+    let meant = cond-false (is_numbered key) (edits.entry_meant (which_of key) (entries_of db)) (entry_named (entries_of db) key) f in
+    subst (λ (o : Option ℕ). KeepsAllButNames from to (is_meant o) db db' × KeepsMacros db db' × KeepsCitations db db') (sym meant)
+    (subst (λ (new : Reading). KeepsAllButNames from to (is_renamed_in db (Some key)) db new × KeepsMacros db new × KeepsCitations db new)
+    (sym (is (asked_fields from to (Some key)) (rename_field from to (Some key)) ∙ ap (edited made_base db) told))
+    (rename-field-keeps made_base db from to (Some key) (subst (IsAccepted made_base db) told (allowed (asked_fields from to (Some key)) (rename_field from to (Some key)))))))
+    (cases_Bool (is_numbered key))
 made-keeps (DefineMacro name value) db db' allowed is =
     let v = some_value value in
     let asked = define_macro name value v.0 v.1 in
     subst (Keeps (DefineMacro name value) db) (sym (is (edits.DefineMacro name v.0) asked)) (define-macro-keeps made_base db name v.0 (allowed (edits.DefineMacro name v.0) asked))
-made-keeps (SetMacro name value) db db' allowed is =
+made-keeps (SetMacro name value) db db' allowed is = ⊎_elim
+    (λ t.
     let v = some_value value in
     let asked = set_macro name value v.0 v.1 in
-    subst (Keeps (SetMacro name value) db) (sym (is (edits.SetMacro name v.0) asked)) (set-macro-keeps made_base db name v.0 (allowed (edits.SetMacro name v.0) asked))
+    let which : edits.Which = which_of name in
+    let e : edits.Edit = edits.ChangeDefinition which.name (edits.number_of which) (edits.SetsValue v.0) in
+    let told : asked_macro name v.0 ≡ e = cond-true (is_numbered name) e (edits.SetMacro name v.0) t in
+    subst (Keeps (SetMacro name value) db) (sym (is (asked_macro name v.0) asked ∙ ap (edited made_base db) told))
+    (set-one-definition-keeps made_base db which.name (edits.number_of which) v.0 (subst (IsAccepted made_base db) told (allowed (asked_macro name v.0) asked))))
+    (λ f.
+    let v = some_value value in
+    let asked = set_macro name value v.0 v.1 in
+    let e : edits.Edit = edits.SetMacro name v.0 in
+    let told : asked_macro name v.0 ≡ e = cond-false (is_numbered name) (edits.ChangeDefinition (which_of name).name (edits.number_of (which_of name)) (edits.SetsValue v.0)) e f in
+    let its : name_asked name ≡ name = ap (λ (w : edits.Which). w.name) (which-plain name f) in
+    subst (λ (n : Text). KeepsAllButUsers (dependents (n ∷ []) db.items) db db') (sym its)
+    (subst (KeepsAllButUsers (dependents (name ∷ []) db.items) db) (sym (is (asked_macro name v.0) asked ∙ ap (edited made_base db) told))
+    (set-macro-keeps made_base db name v.0 (subst (IsAccepted made_base db) told (allowed (asked_macro name v.0) asked)))))
+    (cases_Bool (is_numbered name))
 made-keeps (SetField key field value) db db' allowed is = tt
 made-keeps (DropField key field) db db' allowed is = tt
 made-keeps (AddEntry position entry) db db' allowed is = tt
@@ -120,7 +206,7 @@ keeps-texts new_key old new keeps = record {
 }
 
 renaming-texts : (edit : Edit) → is_renaming (request.Edit edit) ≡ true → (old new : Reading) → Keeps edit old new → KeepsTexts old new
-renaming-texts (RenameKey from to) is old new keeps = keeps-texts (key_for (entry_named (entries_of old) from) to) old new keeps.0
+renaming-texts (RenameKey from to) is old new keeps = keeps-texts (key_for (entry_asked from (entries_of old)) to) old new keeps.0
 renaming-texts (RegenerateKeys depth) is old new keeps = keeps-texts (slice_get (new_keys made_base depth (entries_of old))) old new keeps.0
 renaming-texts (RenameMacro from to) is old new keeps = keeps-texts no_new_key old new keeps.0
 renaming-texts (InlineMacro name) is old new keeps = keeps-texts no_new_key old new keeps.0

@@ -22,9 +22,8 @@ use Rattle.bib_edit.proofs.Inserted.{planned-lead, planned-open}
 use Rattle.bib_data.specs.declared.position.Position.TheVariants.{Number, End, Before, After}
 use Rattle.bib_edit.specs.declared.fault.EditFault.{EditFault}
 use Rattle.bib_edit.specs.declared.fault.EditFault.TheVariants as edit_fault
-use Rattle.bib_edit.specs.Addressing.{IsHolderFault}
 use Rattle.bib_edit.specs.Planning.{IsRefusal}
-use Rattle.bib_edit.specs.Positions.{IsPlaceOf, IsPositionRefusal, ArePiecesAt, IsAllowedAt, IsRefusalAt, edit_at}
+use Rattle.bib_edit.specs.Positions.{IsPlaceOf, IsCountFault, IsPositionRefusal, ArePiecesAt, IsAllowedAt, IsRefusalAt, edit_at}
 use Rattle.bib_journal.specs.Faults.{refused}
 use Rattle.bib_journal.specs.declared.fault.SessionFault.{SessionFault}
 use Rattle.bib_journal.specs.declared.fault.SessionFault.TheVariants.{Refused, JournalFull, Memory}
@@ -219,14 +218,14 @@ refused_edit edit_fault.WouldMerge edit state why = ((λ e. absurd (cc (e))), wh
 refused_edit edit_fault.FileTooLong edit state why = ((λ e. absurd (cc (e))), why)
 refused_edit edit_fault.TextTooLong edit state why = ((λ e. absurd (cc (e))), why)
 
--- a position is refused since no entry has its key, or several do
+-- a position is refused since by its key no entry is meant, or several are
 pub told_position : (position : Position) (file : Text) (fault : EditFault) → IsPositionRefusal file position fault → refused fault ≡ Refused fault
 told_position (Number n) file fault why = absurd why
 told_position End file fault why = absurd why
-told_position (Before key) file fault (IsHolderFault.none_holds none) = refl
-told_position (Before key) file fault (IsHolderFault.many_hold many) = refl
-told_position (After key) file fault (IsHolderFault.none_holds none) = refl
-told_position (After key) file fault (IsHolderFault.many_hold many) = refl
+told_position (Before key) file fault (IsCountFault.none_meant none) = refl
+told_position (Before key) file fault (IsCountFault.many_meant many) = refl
+told_position (After key) file fault (IsCountFault.none_meant none) = refl
+told_position (After key) file fault (IsCountFault.many_meant many) = refl
 
 -- a refused edit at a position, as a session tells it
 pub refused_at : (position : Position) (edit : Edit) (fault : EditFault) (state : SessionState) → IsRefusalAt state.steps.present position edit fault → RefusesEditAt (refused fault) position edit state

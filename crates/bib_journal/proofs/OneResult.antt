@@ -12,14 +12,12 @@ use Rattle.bib_edit.specs.Faults.{reason_of}
 use Rattle.bib_store.specs.Readings.{OfReading}
 use Rattle.std.proofs.Common.{ap₂}
 use Rattle.bib_spec.specs.Reading.{Reading, Reads}
-use Rattle.edit_spec.specs.Edits.{holders}
 use Rattle.insert_spec.specs.Insertion.{pieces_of, IsFirstRefusedInsertion}
 use Rattle.bib_scan.specs.declared.fault.ReadFault.{ReadFault}
 use Rattle.bib_store.specs.Readings.{IsOpenFault}
 use Rattle.bib_data.specs.declared.position.Position.{Position}
 use Rattle.bib_data.specs.declared.position.Position.TheVariants.{Number, End, Before, After}
-use Rattle.bib_edit.specs.Addressing.{IsHolderFault}
-use Rattle.bib_edit.specs.Positions.{NamesOneEntry, IsPositionPlace, IsPositionRefusal, IsPlaceOf, edit_at}
+use Rattle.bib_edit.specs.Positions.{count_meant, NamesOneEntry, IsCountFault, IsPositionPlace, IsPositionRefusal, IsPlaceOf, edit_at}
 use Rattle.bib_edit.specs.Insertions.{IsInsertionRefusal}
 use Rattle.bib_journal.specs.Session.{MakesEditAt, RefusesEdit, RefusesEditThere, RefusesEditAt, PlansInsertion, Inserts, RefusesPlanned, RefusesPlan, LacksRoomFor, MakesLongText, RefusesInsertion}
 use Rattle.bib_journal.specs.OneResult.{one_result}
@@ -276,30 +274,30 @@ edit_one_refusal edit fault other old opens told told' why why' = one_of
 
 -- ---- why an edit is refused at a position
 
--- a key that one entry has is no reason
-holder_names : (key file : Text) (fault : EditFault) (db : Reading) → Reads file db → IsHolderFault file key fault → holders key db ≡ 1 → ⊥
-holder_names key file fault db reads (IsHolderFault.none_holds none) names = omega (arith, none db reads, names)
-holder_names key file fault db reads (IsHolderFault.many_hold many) names = omega (arith, many db reads, names)
+-- a key by which one entry is meant is no reason
+meant_names : (key file : Text) (fault : EditFault) (db : Reading) → Reads file db → IsCountFault file key fault → count_meant key db ≡ 1 → ⊥
+meant_names key file fault db reads (IsCountFault.none_meant none) names = omega (arith, none db reads, names)
+meant_names key file fault db reads (IsCountFault.many_meant many) names = omega (arith, many db reads, names)
 
-one_holder : (key file : Text) (fault other : EditFault) → IsOpenable file → IsHolderFault file key fault → IsHolderFault file key other → fault ≡ other
-one_holder key file fault other opens (IsHolderFault.none_holds none) (IsHolderFault.none_holds none') = refl
-one_holder key file fault other opens (IsHolderFault.none_holds none) (IsHolderFault.many_hold many) = absurd (omega (arith, none opens.0 opens.1.reads, many opens.0 opens.1.reads))
-one_holder key file fault other opens (IsHolderFault.many_hold many) (IsHolderFault.none_holds none) = absurd (omega (arith, none opens.0 opens.1.reads, many opens.0 opens.1.reads))
-one_holder key file fault other opens (IsHolderFault.many_hold many) (IsHolderFault.many_hold many') = refl
+one_count : (key file : Text) (fault other : EditFault) → IsOpenable file → IsCountFault file key fault → IsCountFault file key other → fault ≡ other
+one_count key file fault other opens (IsCountFault.none_meant none) (IsCountFault.none_meant none') = refl
+one_count key file fault other opens (IsCountFault.none_meant none) (IsCountFault.many_meant many) = absurd (omega (arith, none opens.0 opens.1.reads, many opens.0 opens.1.reads))
+one_count key file fault other opens (IsCountFault.many_meant many) (IsCountFault.none_meant none) = absurd (omega (arith, none opens.0 opens.1.reads, many opens.0 opens.1.reads))
+one_count key file fault other opens (IsCountFault.many_meant many) (IsCountFault.many_meant many') = refl
 
 -- a position that is refused names no entry, or several
 pub position_names : (position : Position) (file : Text) (fault : EditFault) (db : Reading) → Reads file db → IsPositionRefusal file position fault → NamesOneEntry position db → ⊥
 position_names (Number n) file fault db reads why names = why
 position_names End file fault db reads why names = why
-position_names (Before key) file fault db reads why names = holder_names key file fault db reads why names
-position_names (After key) file fault db reads why names = holder_names key file fault db reads why names
+position_names (Before key) file fault db reads why names = meant_names key file fault db reads why names
+position_names (After key) file fault db reads why names = meant_names key file fault db reads why names
 
 -- a position is refused for one reason
 pub one_position : (position : Position) (file : Text) (fault other : EditFault) → IsOpenable file → IsPositionRefusal file position fault → IsPositionRefusal file position other → fault ≡ other
 one_position (Number n) file fault other opens why why' = absurd why
 one_position End file fault other opens why why' = absurd why
-one_position (Before key) file fault other opens why why' = one_holder key file fault other opens why why'
-one_position (After key) file fault other opens why why' = one_holder key file fault other opens why why'
+one_position (Before key) file fault other opens why why' = one_count key file fault other opens why why'
+one_position (After key) file fault other opens why why' = one_count key file fault other opens why why'
 
 -- the edit at the place that the position says
 there : (position : Position) (edit : Edit) (fault : SessionFault) (old : SessionState) (place : ℕ) → IsOpenable old.steps.present → IsPlaceOf old.steps.present position edit place

@@ -1,12 +1,14 @@
 -- What a session keeps of what its file says, when keys and macros change. (dialect)
-use Rattle.std.specs.Prelude.{ℕ, ◌≡◌, Bool, true, false, List, [], ◌∷◌, Option, option_map, length, slice_get}
+use Rattle.std.specs.Prelude.{ℕ, ◌≡◌, Bool, true, false, List, [], ◌∷◌, Option, Some, None, option_map, length, slice_get}
 use Rattle.std.specs.List.{list_all}
 use Rattle.bib_spec.specs.Text.{Text}
 use Rattle.bib_spec.specs.Reading.{Reading}
-use Rattle.bib_spec.specs.Records.{Record, entries_of, preambles_of, keys_of, entry_named, parent, expanded}
+use Rattle.bib_spec.specs.Records.{Record, entries_of, preambles_of, keys_of, parent, expanded}
 use Rattle.bib_spec.specs.MadeKeys.{new_keys}
-use Rattle.edit_spec.specs.Edits.{key_for}
-use Rattle.edit_spec.specs.Laws.{KeepsEntries, KeepsAllButNames, KeepsAllButTypes, KeepsAllButUsers, KeepsIfUnused, dependents, is_renamed_in, KeepsMacros, KeepsCitations, KeepsCitationsByKey, SeesRenamed, SeesInlined, SeesIntroduced, SeesUndefined, AllDiffer, no_new_key, type_for}
+use Rattle.edit_spec.specs.Edits.{key_for, number_of, definition_meant}
+use Rattle.edit_spec.specs.Laws.{KeepsEntries, KeepsAllButNames, KeepsAllButTypes, KeepsAllButUsers, KeepsIfUnused, dependents, KeepsMacros, KeepsCitations, KeepsCitationsByKey, SeesRenamed, SeesInlined, SeesIntroduced, SeesUndefined, AllDiffer, no_new_key, type_for}
+use Rattle.edit_spec.specs.OtherLaws.{is_meant}
+use Rattle.edit_spec.specs.OneLaws.{SeesWithout}
 use Rattle.history_spec.specs.Steps.{IsSound}
 use Rattle.bib_store.specs.Readings.{OfReading}
 use Rattle.bib_data.specs.declared.edit.Edit.{Edit}
@@ -14,6 +16,8 @@ use Rattle.bib_data.specs.declared.edit.Edit.TheVariants.{RenameKey, RegenerateK
 use Rattle.bib_data.specs.declared.request.Request.{Request}
 use Rattle.bib_data.specs.declared.request.Request.TheVariants as request
 use Rattle.bib_edit.specs.declared.fault.EditFault.{EditFault}
+use Rattle.bib_edit.specs.Numbers.{is_numbered, which_of}
+use Rattle.bib_edit.specs.Asking.{entry_asked, name_asked}
 use Rattle.bib_keys.specs.MadeBase.{made_base}
 use Rattle.bib_journal.specs.declared.fault.SessionFault.{SessionFault}
 use Rattle.bib_journal.specs.declared.fault.SessionFault.TheVariants.{Refused}
@@ -22,23 +26,35 @@ use Rattle.bib_journal.specs.Session.{MakesEdit, RefusesEdit, Performs}
 
 -- ---- one renaming
 
+-- the edit renames fields of entry n: in the entry that the key means, or in every entry
+abbrev pub is_asked : Option Text → Reading → ℕ → Bool
+is_asked None old n = true
+is_asked (Some key) old n = is_meant (entry_asked key (entries_of old)) n
+
+-- What names stand for without the definition that is removed. If a number told which one of several it is, the macro itself stands for
+-- what it stood for before that definition, and again after the next one.
+pub record SeesOthers (name : Text) (old new : Reading) : Type 0 where
+  pub alone : is_numbered name ≡ false → SeesUndefined name old new
+  pub one : is_numbered name ≡ true →
+      (n : ℕ) × (definition_meant (which_of name).name (number_of (which_of name)) old.items ≡ Some n) × SeesWithout (which_of name).name n old new
+
 -- What a renaming keeps: each entry's record and parent, each preamble, what each macro stands for, and each cited list are
 -- what they were, except the names that it gives. Keys that are made all differ. An entry that gets another type keeps all but
 -- that type, and entries whose fields get another name keep all but these names. A macro that nothing uses is defined, and all is
 -- what it was, except for that macro; a macro gets another value, and all is that does not depend on it. Nothing is said here about
 -- other edits.
 abbrev pub Keeps : Edit → Reading → Reading → Type 0
-Keeps (RenameKey from to) old new = KeepsEntries (key_for (entry_named (entries_of old) from) to) old new × KeepsMacros old new × KeepsCitationsByKey old new
+Keeps (RenameKey from to) old new = KeepsEntries (key_for (entry_asked from (entries_of old)) to) old new × KeepsMacros old new × KeepsCitationsByKey old new
 Keeps (RegenerateKeys depth) old new =
     KeepsEntries (slice_get (new_keys made_base depth (entries_of old))) old new × KeepsMacros old new × KeepsCitationsByKey old new × AllDiffer (keys_of (entries_of new))
 Keeps (RenameMacro from to) old new = KeepsEntries no_new_key old new × KeepsCitations old new × SeesRenamed from to old new
 Keeps (InlineMacro name) old new = KeepsEntries no_new_key old new × KeepsCitations old new × SeesInlined name old new
 Keeps (IntroduceMacro name text) old new = KeepsEntries no_new_key old new × KeepsCitations old new × SeesIntroduced name text old new
-Keeps (UndefineMacro name) old new = KeepsEntries no_new_key old new × KeepsCitations old new × SeesUndefined name old new
-Keeps (RenameField from to key) old new = KeepsAllButNames from to (is_renamed_in old key) old new × KeepsMacros old new × KeepsCitations old new
+Keeps (UndefineMacro name) old new = KeepsEntries no_new_key old new × KeepsCitations old new × SeesOthers name old new
+Keeps (RenameField from to key) old new = KeepsAllButNames from to (is_asked key old) old new × KeepsMacros old new × KeepsCitations old new
 Keeps (DefineMacro name value) old new = KeepsIfUnused name old new
-Keeps (SetMacro name value) old new = KeepsAllButUsers (dependents (name ∷ []) old.items) old new
-Keeps (SetType key kind_name) old new = KeepsAllButTypes (type_for (entry_named (entries_of old) key) kind_name) old new × KeepsMacros old new × KeepsCitations old new
+Keeps (SetMacro name value) old new = KeepsAllButUsers (dependents (name_asked name ∷ []) old.items) old new
+Keeps (SetType key kind_name) old new = KeepsAllButTypes (type_for (entry_asked key (entries_of old)) kind_name) old new × KeepsMacros old new × KeepsCitations old new
 Keeps other old new = Unit {0}
 
 -- it holds of what the two files say

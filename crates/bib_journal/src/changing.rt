@@ -17,8 +17,8 @@ use crate::replay::{belong_once, file_before};
 use crate::saving::{Saved, saved_back};
 use crate::session::Session;
 use bib_data::Request;
-use bib_scan::Seq;
 use bib_store::{Database, ItemList};
+use bib_text::Seq;
 use journal_format::Step;
 use std::alloc::Global;
 

@@ -7,8 +7,8 @@ use crate::closing::close;
 use crate::fault::{SessionFault, refused, unopened};
 use bib_data::Position;
 use bib_edit::{place_of, plan_insertion};
-use bib_scan::Seq;
 use bib_store::{Database, ItemList, Paged, Piece};
+use bib_text::Seq;
 use std::alloc::Global;
 
 /// The pieces that put the text in at the position, or why it can't be put in. Whether a raw text would be too long then is not

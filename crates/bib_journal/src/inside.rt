@@ -8,9 +8,9 @@ ghost use Rattle.history_spec.specs.Steps.{IsAllowed};
 ghost use Rattle.bib_steps.specs.Amending.{HasSpot, edited, edited_at};
 
 use crate::stepping::go_on;
-use bib_scan::Seq;
 use bib_steps::{Spot, renew_ends_after, replace as replace_items};
 use bib_store::{Database, ItemList, Piece};
+use bib_text::Seq;
 use std::alloc::{AllocError, Global};
 use std::mem::replace;
 

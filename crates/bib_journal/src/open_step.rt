@@ -4,7 +4,7 @@ ghost use Rattle.std.specs.Prelude.{◌≡◌, ◌↔◌, IsTrue};
 ghost use Rattle.bib_journal.specs.OpenSteps.{next_label, after_edit};
 ghost use Rattle.bib_journal.specs.declared.open_step.OpenStep.TheVariants.{NoStep, LastStep};
 
-use bib_scan::{Seq, Text};
+use bib_text::{Seq, Text};
 use std::alloc::Global;
 use std::mem::replace;
 

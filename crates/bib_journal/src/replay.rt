@@ -5,8 +5,8 @@ ghost use Rattle.bib_spec.specs.Pieces.{applied};
 ghost use Rattle.history_spec.specs.Steps.{IsAllowed, Leads, LeadTo, LeadOn, BelongTo, before, first_of};
 ghost use Rattle.bib_journal.specs.Loading.{IsTurnable, AreTurnable, last_of};
 
-use bib_scan::Text;
 use bib_store::{Database, ItemList, Piece, StoreFault, reverse};
+use bib_text::Text;
 use journal_format::Step;
 use std::alloc::{AllocError, Global};
 

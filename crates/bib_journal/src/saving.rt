@@ -4,7 +4,7 @@ ghost use Rattle.std.specs.Prelude.{◌≡◌, ◌-◌, ◌≤◌, ◌++◌, dro
 ghost use Rattle.journal_format.specs.Contents.{digest_of, IsDigest};
 ghost use Rattle.journal_format.specs.JournalText.{journal_text};
 
-use bib_scan::Text;
+use bib_text::Text;
 use journal_format::{Journal, Step, digest, write_journal};
 use std::alloc::{AllocError, Global};
 

@@ -22,8 +22,8 @@ use crate::saving::{Saved, journal_of};
 use crate::stepping::{forget, go_back, go_on, go_on_if_open};
 use bib_data::Position;
 use bib_edit::{Edit, EditFault, plan, plan_at};
-use bib_scan::{Seq, Text};
 use bib_store::{Database, ItemList, Piece, compose};
+use bib_text::{Seq, Text};
 use journal_format::{
     CHANGE_LIMIT, Journal, STEP_TEXTS_LIMIT, Step, step_text_len, step_texts_len,
 };
@@ -227,7 +227,7 @@ impl<L: ItemList> Session<L> {
         if !self.current.is_none() {
             return Err(SessionFault::StepOpen);
         }
-        self.current = OpenStep::NewStep(bib_scan::copied(self.alloc, label)?);
+        self.current = OpenStep::NewStep(bib_text::copied(self.alloc, label)?);
         Ok(())
     }
 

@@ -8,8 +8,8 @@ ghost use Rattle.bib_names.specs.LabelParts.{parts_of, parts_with, base_from};
 ghost use Rattle.bib_keys.specs.Parents.{label_fields, KeepTheSame};
 
 use bib_names::{Inherited, LabelParts, label_base_with, label_parts};
-use bib_scan::Text;
 use bib_store::{Database, ItemList};
+use bib_text::Text;
 use std::alloc::{AllocError, Global};
 
 /// The records of a file's entries at a depth, as labels need them: of each entry, only the fields with these names are

@@ -15,8 +15,8 @@ ghost use Rattle.bib_keys.specs.TakenKeys.{AreTaken, taken_in};
 use crate::label_bases::{LabelRecords, Parents};
 use crate::taken_keys::TakenKeys;
 use bib_names::{key_letters, label_names};
-use bib_scan::{Seq, Text};
 use bib_store::{Database, ItemList};
+use bib_text::{Seq, Text};
 use std::alloc::{AllocError, Global};
 
 /// The base of the key that is made for entry `n` from its record.

@@ -2,8 +2,8 @@
 
 use crate::dangling::dangling_text;
 use bib_names::candidate;
-use bib_scan::{NAME_LIMIT, Text};
 use bib_store::{Database, ItemList};
+use bib_text::{NAME_LIMIT, Text};
 use folded_map::FoldedMap;
 use std::alloc::{AllocError, Global};
 

@@ -31,8 +31,9 @@ use bib_places::{
     plain_places,
 };
 use bib_renames::{Followed, GivenName, KeyConflict, Named, follow};
-use bib_scan::{ReadFault, Text, copied};
+use bib_scan::ReadFault;
 use bib_store::{Database, Paged};
+use bib_text::{Text, copied};
 use bib_units::{FileUnits, units_of};
 use bib_uses::{LostUse, lost_uses};
 use std::alloc::{AllocError, Global};

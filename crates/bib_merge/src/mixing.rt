@@ -2,9 +2,9 @@
 
 use bib_fields::{MixedRow, RowOf, Side as Origin, fields_agree};
 use bib_places::Side;
-use bib_scan::{FieldView, ItemView, Kind, NAME_LIMIT, same_folded};
+use bib_scan::{FieldView, ItemView, Kind};
 use bib_store::{Database, ItemList, MacrosAt};
-use bib_text::{Text, is_space};
+use bib_text::{NAME_LIMIT, Text, is_space, same_folded};
 use bib_units::UnitView;
 use folded_map::FoldedMap;
 use std::alloc::{AllocError, Global};

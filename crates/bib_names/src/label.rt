@@ -18,7 +18,8 @@ use crate::special::{Chars, char_count};
 use crate::template::{Form, Group, Part};
 use crate::word::Word;
 use bib_data::Record;
-use bib_scan::{Seq, Text, is_balanced};
+use bib_scan::is_balanced;
+use bib_text::{Seq, Text};
 use std::alloc::{AllocError, Global};
 
 /// The text of the first field of exactly this name, empty if there is none: the names in a record are in lower case.

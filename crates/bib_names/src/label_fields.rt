@@ -9,7 +9,7 @@ use crate::fault::NameFault;
 use crate::label::{
     digits_of, first_three, letters_of_many, letters_of_one, listed_names, or_anon, text_in,
 };
-use bib_scan::{Seq, Text, copied, same_folded};
+use bib_text::{Seq, Text, copied, same_folded};
 use std::alloc::{AllocError, Global};
 use std::marker::Model;
 

@@ -10,7 +10,7 @@ use crate::fault::NameFault;
 use crate::label_fields::base_of;
 use crate::tally::Tally;
 use bib_data::Record;
-use bib_scan::{Seq, Text};
+use bib_text::{Seq, Text};
 use std::alloc::{AllocError, Global};
 
 /// The letters of a number: none of 0, then a, b, .. z, aa, ab, ..

@@ -1,7 +1,6 @@
-//! Names of persons, the templates that print them, and labels.
-//!
-//! Knows names, templates and labels, from texts and records alone. Does not know files or edits.
-//! Promises: the parts of a name and their places; the printed text; the label.
+//! Names of persons, the templates that print them, the labels of a bibliography, and the stems of made keys. It knows texts and
+//! records alone, and no files and no edits. It promises the parts of a name and their places, the printed text, the label, and a stem
+//! that is a valid key.
 #![tactic(auto)]
 
 mod braces;

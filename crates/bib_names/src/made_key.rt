@@ -10,7 +10,7 @@ use crate::label::or_anon;
 use crate::label_fields::base_of;
 use crate::labelling::letters;
 use bib_data::Record;
-use bib_scan::{Seq, Text};
+use bib_text::{Seq, Text};
 use std::alloc::{AllocError, Global};
 
 /// The longest base of a made key, in bytes. (dialect)

@@ -7,7 +7,8 @@ ghost use Rattle.bib_names.specs.Name.{commas, without_end, parts_of};
 use crate::fault::NameFault;
 use crate::name_cut::name_cut;
 use crate::word::Word;
-use bib_scan::{Seq, is_balanced};
+use bib_scan::is_balanced;
+use bib_text::Seq;
 use std::alloc::Global;
 
 /// The parts of a name: the words of First, von, Last and Jr, each in the name's order. (btxhak 5.4)

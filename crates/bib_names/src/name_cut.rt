@@ -8,7 +8,7 @@ use crate::name::Name;
 use crate::pieces::{Piece, comma_from, no_piece, pieces_after};
 use crate::text::without_end;
 use crate::word::{Word, words};
-use bib_scan::Seq;
+use bib_text::Seq;
 use std::alloc::{AllocError, Global};
 use std::marker::Model;
 

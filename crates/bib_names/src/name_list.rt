@@ -10,8 +10,8 @@ ghost use Rattle.bib_names.specs.NameList.{is_and, is_cut, names_of};
 use crate::braces::Braces;
 use crate::fault::NameFault;
 use crate::text::is_blank;
-use bib_scan::{Seq, is_balanced, same_folded};
-use bib_text::{is_space, trimmed};
+use bib_scan::is_balanced;
+use bib_text::{Seq, is_space, same_folded, trimmed};
 use std::alloc::{AllocError, Global};
 
 /// Whether the word `and` is at the place, between white space.

@@ -10,7 +10,7 @@ use crate::name::Name;
 use crate::special::char_count;
 use crate::template::{Form, Group, Part, Template};
 use crate::word::Word;
-use bib_scan::{Seq, Text};
+use bib_text::{Seq, Text};
 use std::alloc::{AllocError, Global};
 
 /// What a group prints of a word.

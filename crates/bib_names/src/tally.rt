@@ -5,7 +5,7 @@ ghost use Rattle.std.specs.Str.{bytes_eq};
 ghost use Rattle.bib_names.specs.Label.{count_of};
 ghost use Rattle.bib_names.specs.Counts.{times};
 
-use bib_scan::Text;
+use bib_text::Text;
 use std::alloc::{AllocError, Global};
 use std::collections::HashMap;
 

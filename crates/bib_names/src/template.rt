@@ -7,7 +7,7 @@ ghost use Rattle.bib_names.specs.Template.{is_no_brace, is_ornament, OneTemplate
 ghost use Rattle.bib_names.specs.TemplateReading.{after_byte, part_named, letters_at, between_at, group_at};
 
 use crate::fault::NameFault;
-use bib_scan::{Seq, Text, copied};
+use bib_text::{Seq, Text, copied};
 use std::alloc::{AllocError, Global};
 use std::marker::Model;
 

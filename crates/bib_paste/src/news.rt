@@ -10,8 +10,9 @@ ghost use Rattle.bib_store.specs.Readings.{OfReading, IsItemGap};
 ghost use Rattle.bib_paste.specs.News.{bytes_unless_known, news_of};
 
 use crate::known::is_known;
-use bib_scan::{ItemView, Text};
+use bib_scan::ItemView;
 use bib_store::{Database, ItemList};
+use bib_text::Text;
 use bib_value::MacroTable;
 use std::alloc::{AllocError, Global};
 

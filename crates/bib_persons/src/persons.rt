@@ -7,7 +7,7 @@ ghost use Rattle.bib_spec.specs.Texts.{field_text};
 ghost use Rattle.bib_persons.specs.Persons.{has_names, is_comma_byte, has_many_commas, refused_names};
 
 use bib_names::{NameFault, split_name, split_names};
-use bib_scan::{Seq, same_folded};
+use bib_text::{Seq, same_folded};
 use std::alloc::{AllocError, Global};
 
 /// How many bytes a run has at most: the count of its commas fits a byte.

@@ -7,4 +7,5 @@ pub mod Lists
 pub mod PlacesPut
 pub mod Joining
 pub mod ConflictsMet
+pub mod Queued
 pub mod PlainPlaces

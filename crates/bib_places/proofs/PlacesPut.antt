@@ -464,25 +464,6 @@ all-put given base ours theirs places so_far =
     (λ label. one-of-two (count_by (same_label label) (labels_left ours theirs places)) (count_by (same_label label) (map label_of ours)) (count_by (same_label label) (map label_of theirs))
     (λ most in_ours in_theirs. so_far.ours_seldom label most in_ours in_theirs)))
 
--- ---- numbers of a list
-
--- a number that is removed from a list
-pub removed-goes : (numbers : List ℕ) (at n : ℕ) → at < length numbers → n ≡ get_or numbers at n → Loses n numbers (take at numbers ++ drop (at + 1) numbers)
-removed-goes numbers at n lt is test =
-    sym (sum_by-take-drop (λ k. cond (test k) 1 0) numbers at)
-    ∙ ap (λ l. count_by test (take at numbers) + count_by test l) (drop-next numbers at n lt)
-    ∙ ap (λ k. count_by test (take at numbers) + k) (count-cons test (get_or numbers at n) (drop (at + 1) numbers) ∙ ap (λ m. cond (test m) 1 0 + count_by test (drop (at + 1) numbers)) (sym is))
-    ∙ swap (count_by test (take at numbers)) (cond (test n) 1 0) (count_by test (drop (at + 1) numbers))
-    ∙ ap (λ k. cond (test n) 1 0 + k) (sym (sum_by-append (λ k. cond (test k) 1 0) (take at numbers) (drop (at + 1) numbers)))
-  where
-    swap : (a b c : ℕ) → a + (b + c) ≡ b + (a + c)
-    swap a b c = omega arith
-
--- none of the numbers so far is that of a unit with the label
-pub none-more : (test : ℕ → Bool) (numbers : List ℕ) (k : ℕ) → k < length numbers → test (get_or numbers k 0) ≡ false → count_by test (take k numbers) ≡ 0 → count_by test (take (k + 1) numbers) ≡ 0
-none-more test numbers k lt none so_far =
-    ap (count_by test) (take_more numbers k 0 lt) ∙ one-more test (take k numbers) (get_or numbers k 0) ∙ ap₂ (λ c b. c + cond b 1 0) so_far none
-
 -- what is left is none
 pub left-at-end : (given : List Label) (base ours theirs : List Unit) (places : List Place) (numbers : List ℕ) (k : ℕ) (lo lt : List ℕ) → length numbers ≤ k
     → AreSoFar given base ours theirs places (drop k numbers) lo lt → AreSoFar given base ours theirs places [] lo lt
@@ -495,39 +476,6 @@ ours-at-end given base ours theirs places numbers k lb lt past so_far = subst (�
 pub theirs-at-end : (given : List Label) (base ours theirs : List Unit) (places : List Place) (numbers : List ℕ) (k : ℕ) (lb lo : List ℕ) → length numbers ≤ k
     → AreSoFar given base ours theirs places lb lo (drop k numbers) → AreSoFar given base ours theirs places lb lo []
 theirs-at-end given base ours theirs places numbers k lb lo past so_far = subst (λ l. AreSoFar given base ours theirs places lb lo l) (drop_all k numbers past) so_far
-
--- a number that is found and taken away
-pub taken-some : (units : List Unit) (label : Label) (found : Option ℕ) (at : ℕ) (seen numbers : List ℕ) (n : ℕ) (new : List ℕ) → found ≡ Some at → seen ≡ numbers
-    → IfSome found (λ k. k < length seen) → IfSome found (λ k. has_label units label (get_or seen k 0) ≡ true) → n ≡ get_or numbers at n → new ≡ remove numbers at → IsTaken units label (Some n) numbers new
-taken-some units label found at seen numbers n new is same within has value items =
-    let lt : at < length numbers = subst (λ l. at < length l) same (subst (λ o. IfSome o (λ k. k < length seen)) is within) in
-    let here : has_label units label (get_or numbers at 0) ≡ true = subst (λ l. has_label units label (get_or l at 0) ≡ true) same (subst (λ o. IfSome o (λ k. has_label units label (get_or seen k 0) ≡ true)) is has) in
-    record {
-      goes = λ test. removed-goes numbers at n lt value test ∙ ap (λ l. cond (test n) 1 0 + count_by test l) (ap (λ k. take at numbers ++ drop k numbers) (next at) ∙ sym items);
-      labelled = subst (λ m. has_label units label m ≡ true) (any numbers at lt ∙ sym value) here;
-    }
-  where
-    next : (a : ℕ) → a + 1 ≡ suc a
-    next a = omega arith
-
-    -- where the list has the element, the default does not count
-    any : (l : List ℕ) (k : ℕ) → k < length l → get_or l k 0 ≡ get_or l k n
-    any [] k less = absurd (none k less)
-      where
-        none : (a : ℕ) → a < 0 → ⊥
-        none a = omega arith
-    any (x ∷ l) zero less = refl
-    any (x ∷ l) (suc k) less = any l k (fewer k (length l) less)
-      where
-        fewer : (a b : ℕ) → suc a < suc b → a < b
-        fewer a b = omega arith
-
--- none is found, and nothing is taken away
-pub taken-none : (units : List Unit) (label : Label) (found : Option ℕ) (seen numbers : List ℕ) → found ≡ None → seen ≡ numbers → IfNone found (count_by (has_label units label) seen ≡ 0) → IsTaken units label None numbers numbers
-taken-none units label found seen numbers is same none = record {
-  goes = refl;
-  labelled = subst (λ l. count_by (has_label units label) l ≡ 0) same (subst (λ o. IfNone o (count_by (has_label units label) seen ≡ 0)) is none);
-}
 
 -- the numbers that are left, after one of them
 pub next-left : (numbers : List ℕ) (k : ℕ) → k < length numbers → drop k numbers ≡ get_or numbers k 0 ∷ drop (k + 1) numbers

@@ -4,3 +4,4 @@ pub mod ConflictsSeen
 pub mod LabelCodes
 pub mod Tallies
 pub mod NumbersLeft
+pub mod Queues

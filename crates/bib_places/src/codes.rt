@@ -1,4 +1,4 @@
-//! Labels as texts, so that they can be counted.
+//! Labels as texts, so that they can be counted and found.
 
 ghost use Rattle.std.specs.Prelude.{◌≡◌, ◌∷◌, ◌++◌, [], List, Option, None, Some, map, option_map, option_and_then, IfOk, OnOk};
 ghost use Rattle.std.specs.Option.{option_map_or, option_to_list};

@@ -13,6 +13,7 @@ mod once;
 mod owned_label;
 mod place;
 mod plain;
+mod queues;
 mod seldom;
 mod settled;
 mod side;

@@ -11,11 +11,14 @@ ghost use Rattle.bib_places.specs.OwnedLabels.{owned_seen};
 ghost use Rattle.bib_places.specs.Tallies.{CountsLabels};
 ghost use Rattle.bib_places.specs.PlacesSeen.{MaySee, IsSide, outcome_seen, place_seen};
 ghost use Rattle.bib_places.specs.NumbersLeft.{AreSoFar};
+ghost use Rattle.bib_places.specs.Queues.{left_of, AreOfUnits};
 
+use crate::codes::{code_of, codes_of};
 use crate::naming::{codes_given, is_removed_and_named};
-use crate::numbers::{numbers, take};
+use crate::numbers::numbers;
 use crate::owned_label::OwnedLabel;
 use crate::place::{Outcome, Place};
+use crate::queues::Queues;
 use crate::settled::{Met, is_white, may_be_ours, may_be_theirs, may_go};
 use crate::side::{Side, unit_at, unit_with};
 use crate::tally::Tally;
@@ -111,19 +114,20 @@ fn put_base_unit<'a, L: ItemList>(
     ours: &Side<'a, L>,
     theirs: &Side<'a, L>,
     n: usize,
-    of_ours: &mut Vec<usize>,
-    of_theirs: &mut Vec<usize>,
+    of_ours: &mut Queues<'_>,
+    of_theirs: &mut Queues<'_>,
     places: &mut Vec<Place<'a>>,
 ) -> Result<(), AllocError>
     ensures { OnOk result ((rb ro rt : Reading) → IsSide rb base.now.db.now base.now.units.now → IsSide ro ours.now.db.now ours.now.units.now → IsSide rt theirs.now.db.now theirs.now.units.now
-        → (labels : List Label) → CountsLabels given.now.counts labels → (left : List ℕ)
-        → AreSoFar labels (units_of rb) (units_of ro) (units_of rt) (map (place_seen (units_of ro) (units_of rt)) places.old.items) (n ∷ left) of_ours.old.items of_theirs.old.items
-        → AreSoFar labels (units_of rb) (units_of ro) (units_of rt) (map (place_seen (units_of ro) (units_of rt)) places.new.items) left of_ours.new.items of_theirs.new.items) }
+        → (labels : List Label) → CountsLabels given.now.counts labels → AreOfUnits (units_of ro) of_ours.old → AreOfUnits (units_of rt) of_theirs.old → (left : List ℕ)
+        → AreSoFar labels (units_of rb) (units_of ro) (units_of rt) (map (place_seen (units_of ro) (units_of rt)) places.old.items) (n ∷ left) (left_of of_ours.old) (left_of of_theirs.old)
+        → AreOfUnits (units_of ro) of_ours.new × AreOfUnits (units_of rt) of_theirs.new × AreSoFar labels (units_of rb) (units_of ro) (units_of rt) (map (place_seen (units_of ro) (units_of rt)) places.new.items) left (left_of of_ours.new) (left_of of_theirs.new)) }
 {
     match unit_with(base.units, n) {
         Some(unit) => {
-            let o = take(ours.units, unit.label, of_ours);
-            let t = take(theirs.units, unit.label, of_theirs);
+            let code = code_of(alloc, unit.label)?;
+            let o = of_ours.take(code.as_slice());
+            let t = of_theirs.take(code.as_slice());
             let place = plain_place(alloc, given, base, ours, theirs, Some(n), o, t)?;
             places.push(place)?;
             Ok(())
@@ -140,14 +144,14 @@ fn put_base<'a, L: ItemList>(
     ours: &Side<'a, L>,
     theirs: &Side<'a, L>,
     numbers: &[usize],
-    of_ours: &mut Vec<usize>,
-    of_theirs: &mut Vec<usize>,
+    of_ours: &mut Queues<'_>,
+    of_theirs: &mut Queues<'_>,
     places: &mut Vec<Place<'a>>,
 ) -> Result<(), AllocError>
     ensures { OnOk result ((rb ro rt : Reading) → IsSide rb base.now.db.now base.now.units.now → IsSide ro ours.now.db.now ours.now.units.now → IsSide rt theirs.now.db.now theirs.now.units.now
-        → (labels : List Label) → CountsLabels given.now.counts labels
-        → AreSoFar labels (units_of rb) (units_of ro) (units_of rt) (map (place_seen (units_of ro) (units_of rt)) places.old.items) numbers.now of_ours.old.items of_theirs.old.items
-        → AreSoFar labels (units_of rb) (units_of ro) (units_of rt) (map (place_seen (units_of ro) (units_of rt)) places.new.items) [] of_ours.new.items of_theirs.new.items) }
+        → (labels : List Label) → CountsLabels given.now.counts labels → AreOfUnits (units_of ro) of_ours.old → AreOfUnits (units_of rt) of_theirs.old
+        → AreSoFar labels (units_of rb) (units_of ro) (units_of rt) (map (place_seen (units_of ro) (units_of rt)) places.old.items) numbers.now (left_of of_ours.old) (left_of of_theirs.old)
+        → AreOfUnits (units_of ro) of_ours.new × AreOfUnits (units_of rt) of_theirs.new × AreSoFar labels (units_of rb) (units_of ro) (units_of rt) (map (place_seen (units_of ro) (units_of rt)) places.new.items) [] (left_of of_ours.new) (left_of of_theirs.new)) }
 {
     'numbers: for k in 0..numbers.len() {
         put_base_unit(
@@ -165,17 +169,18 @@ fn put_our_unit<'a, L: ItemList>(
     ours: &Side<'a, L>,
     theirs: &Side<'a, L>,
     n: usize,
-    of_theirs: &mut Vec<usize>,
+    of_theirs: &mut Queues<'_>,
     places: &mut Vec<Place<'a>>,
 ) -> Result<(), AllocError>
     ensures { OnOk result ((rb ro rt : Reading) → IsSide rb base.now.db.now base.now.units.now → IsSide ro ours.now.db.now ours.now.units.now → IsSide rt theirs.now.db.now theirs.now.units.now
-        → (labels : List Label) → CountsLabels given.now.counts labels → (left : List ℕ)
-        → AreSoFar labels (units_of rb) (units_of ro) (units_of rt) (map (place_seen (units_of ro) (units_of rt)) places.old.items) [] (n ∷ left) of_theirs.old.items
-        → AreSoFar labels (units_of rb) (units_of ro) (units_of rt) (map (place_seen (units_of ro) (units_of rt)) places.new.items) [] left of_theirs.new.items) }
+        → (labels : List Label) → CountsLabels given.now.counts labels → AreOfUnits (units_of rt) of_theirs.old → (left : List ℕ)
+        → AreSoFar labels (units_of rb) (units_of ro) (units_of rt) (map (place_seen (units_of ro) (units_of rt)) places.old.items) [] (n ∷ left) (left_of of_theirs.old)
+        → AreOfUnits (units_of rt) of_theirs.new × AreSoFar labels (units_of rb) (units_of ro) (units_of rt) (map (place_seen (units_of ro) (units_of rt)) places.new.items) [] left (left_of of_theirs.new)) }
 {
     match unit_with(ours.units, n) {
         Some(unit) => {
-            let t = take(theirs.units, unit.label, of_theirs);
+            let code = code_of(alloc, unit.label)?;
+            let t = of_theirs.take(code.as_slice());
             let place = plain_place(alloc, given, base, ours, theirs, None, Some(n), t)?;
             places.push(place)?;
             Ok(())
@@ -192,13 +197,13 @@ fn put_ours<'a, L: ItemList>(
     ours: &Side<'a, L>,
     theirs: &Side<'a, L>,
     numbers: &[usize],
-    of_theirs: &mut Vec<usize>,
+    of_theirs: &mut Queues<'_>,
     places: &mut Vec<Place<'a>>,
 ) -> Result<(), AllocError>
     ensures { OnOk result ((rb ro rt : Reading) → IsSide rb base.now.db.now base.now.units.now → IsSide ro ours.now.db.now ours.now.units.now → IsSide rt theirs.now.db.now theirs.now.units.now
-        → (labels : List Label) → CountsLabels given.now.counts labels
-        → AreSoFar labels (units_of rb) (units_of ro) (units_of rt) (map (place_seen (units_of ro) (units_of rt)) places.old.items) [] numbers.now of_theirs.old.items
-        → AreSoFar labels (units_of rb) (units_of ro) (units_of rt) (map (place_seen (units_of ro) (units_of rt)) places.new.items) [] [] of_theirs.new.items) }
+        → (labels : List Label) → CountsLabels given.now.counts labels → AreOfUnits (units_of rt) of_theirs.old
+        → AreSoFar labels (units_of rb) (units_of ro) (units_of rt) (map (place_seen (units_of ro) (units_of rt)) places.old.items) [] numbers.now (left_of of_theirs.old)
+        → AreOfUnits (units_of rt) of_theirs.new × AreSoFar labels (units_of rb) (units_of ro) (units_of rt) (map (place_seen (units_of ro) (units_of rt)) places.new.items) [] [] (left_of of_theirs.new)) }
 {
     'numbers: for k in 0..numbers.len() {
         put_our_unit(
@@ -256,8 +261,8 @@ fn put_theirs<'a, L: ItemList>(
 
 /// The places of a merge that needs no search, in which the sides gave units these labels: the units of one label meet in their order,
 /// and of those that meet ours stays if it may, or else theirs is taken if it may, or else they go if they may, or else both stay. The
-/// units of the common file come first, then ours, then theirs. It takes time in the number of units times the number of those that
-/// it has to pass over, which is small if the files have one order. It is refused only out of memory.
+/// units of the common file come first, then ours, then theirs. It takes time and memory in the number of units, and in the lengths of
+/// their labels and of the units that differ. It is refused only out of memory.
 pub fn plain_places<'a, L: ItemList>(
     alloc: Global,
     given: &[OwnedLabel],
@@ -271,8 +276,10 @@ pub fn plain_places<'a, L: ItemList>(
     let codes = codes_given(alloc, given)?;
     let tally = Tally::of(alloc, codes.as_slice())?;
     let of_base = numbers(alloc, base.units.len())?;
-    let mut of_ours = numbers(alloc, ours.units.len())?;
-    let mut of_theirs = numbers(alloc, theirs.units.len())?;
+    let our_codes = codes_of(alloc, ours.units)?;
+    let mut of_ours = Queues::of(alloc, our_codes.as_slice())?;
+    let their_codes = codes_of(alloc, theirs.units)?;
+    let mut of_theirs = Queues::of(alloc, their_codes.as_slice())?;
     let mut places = Vec::new(alloc);
     put_base(
         alloc,
@@ -285,23 +292,25 @@ pub fn plain_places<'a, L: ItemList>(
         &mut of_theirs,
         &mut places,
     )?;
+    let ours_left = of_ours.numbers(alloc)?;
     put_ours(
         alloc,
         &tally,
         base,
         ours,
         theirs,
-        of_ours.as_slice(),
+        ours_left.as_slice(),
         &mut of_theirs,
         &mut places,
     )?;
+    let theirs_left = of_theirs.numbers(alloc)?;
     put_theirs(
         alloc,
         &tally,
         base,
         ours,
         theirs,
-        of_theirs.as_slice(),
+        theirs_left.as_slice(),
         &mut places,
     )?;
     Ok(places)

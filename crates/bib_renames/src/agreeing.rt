@@ -5,9 +5,8 @@ use crate::finding::given_names;
 use crate::given::GivenName;
 use crate::lone::count;
 use crate::rename::{Change, Named};
-use bib_scan::same_folded;
 use bib_store::{Database, ItemList};
-use bib_text::{Text, copied};
+use bib_text::{Text, copied, same_folded};
 use std::alloc::{AllocError, Global};
 use std::collections::HashMap;
 

@@ -5,9 +5,9 @@ ghost use Rattle.bib_store.specs.Readings.{OfReading};
 ghost use Rattle.bib_renames.specs.Changes.{count_named};
 
 use crate::rename::Named;
-use bib_scan::{FieldView, ItemView, Kind, same_folded};
+use bib_scan::{FieldView, ItemView, Kind};
 use bib_store::{Database, ItemList};
-use bib_text::{Text, copied};
+use bib_text::{Text, copied, same_folded};
 use std::alloc::{AllocError, Global};
 
 /// An entry or a definition that another file lacks: what it says without its name, and the name.

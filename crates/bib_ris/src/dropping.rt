@@ -8,8 +8,8 @@ ghost use Rattle.bib_store.specs.Readings.{OfReading, IsEntryNumber};
 ghost use Rattle.ris_format.specs.declared.fault.MappingFault.TheVariants.{Memory};
 ghost use Rattle.bib_ris.specs.Dropped.{dropped_line, dropped_lines, entries_dropped};
 
-use bib_scan::{Seq, Text};
 use bib_store::{Database, ItemList, Record};
+use bib_text::{Seq, Text};
 use ris_format::{MappingFault, dropped_of};
 use std::alloc::{AllocError, Global};
 

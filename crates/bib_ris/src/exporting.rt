@@ -11,8 +11,8 @@ ghost use Rattle.bib_ris.specs.Export.{entries_ris};
 ghost use Rattle.bib_ris.specs.Plain.{in_plain, entries_plain};
 
 use crate::plain_records::in_plain;
-use bib_scan::{Seq, Text};
 use bib_store::{Database, ItemList};
+use bib_text::{Seq, Text};
 use ris_format::{MappingFault, given_records_fit, ris_names, ris_of, write_entry};
 use ris_text::write_record;
 use std::alloc::Global;

@@ -11,8 +11,8 @@ ghost use Rattle.bib_keys.specs.TakenKeys.{taken_in};
 ghost use Rattle.bib_store.specs.Readings.{OfReading};
 
 use bib_names::candidate;
-use bib_scan::{Seq, Text, same_folded};
 use bib_store::{Database, ItemList};
+use bib_text::{Seq, Text, same_folded};
 use std::alloc::{AllocError, Global};
 
 /// How many candidates of a base are looked up. If all are taken, the keys of the file are listed.

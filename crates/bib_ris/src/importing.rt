@@ -17,8 +17,8 @@ use crate::fault::ImportFault;
 use crate::free_key::look_up_keys;
 use bib_data::NewEntry;
 use bib_edit::free_keys;
-use bib_scan::{Seq, Text};
 use bib_store::{Database, ItemList};
+use bib_text::{Seq, Text};
 use ris_text::SkippedLines;
 use std::alloc::Global;
 

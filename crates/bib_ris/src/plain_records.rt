@@ -6,7 +6,7 @@ ghost use Rattle.ris_text.specs.Writing.{is_well_formed};
 ghost use Rattle.ris_format.specs.Escapes.{is_copied};
 ghost use Rattle.bib_ris.specs.Plain.{plain_value, plain_line, plain_record, in_plain};
 
-use bib_scan::{Seq, Text, copied};
+use bib_text::{Seq, Text, copied};
 use plain_text::plain;
 use ris_text::{RisLine, RisRecord, is_well_formed};
 use std::alloc::{AllocError, Global};

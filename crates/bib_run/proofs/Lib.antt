@@ -1,5 +1,7 @@
 -- ---- readers, writers and the end of a run
 pub mod Words
+pub mod UpToJournal
+pub mod FileDigests
 pub mod WholeFile
 pub mod ReadRuns
 pub mod Progress
@@ -10,4 +12,5 @@ pub mod OpenLemmas
 pub mod LogLemmas
 pub mod StoredRuns
 pub mod OneAnswer
+pub mod AnyRun
 pub mod SkippedLines

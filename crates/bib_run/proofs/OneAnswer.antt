@@ -11,7 +11,6 @@ use Rattle.bib_spec.specs.Texts.{months, macros_at}
 use Rattle.bib_spec.specs.Fault.{ReadingFault, fault_number, too_long, no_memory}
 use Rattle.bib_spec.specs.Fault as reading
 use Rattle.bib_scan.proofs.OneReading.{one_reading}
-use Rattle.bib_scan.proofs.PlaceLaws.{one_fault}
 use Rattle.bib_data.specs.declared.edit.NewEntry.{NewEntry}
 use Rattle.bib_data.specs.declared.request.Request.TheVariants as request
 use Rattle.bib_names.specs.Template.{Pattern}
@@ -47,6 +46,8 @@ use Rattle.bibtex_answers.specs.Opened.{AnswersAsBibtex, IsFaultAsBibtex, if_pla
 use Rattle.bibtex_answers.specs.Show as bibtex_show
 use Rattle.bibtex_answers.specs.Cite as bibtex_cite
 use Rattle.bibtex_answers.specs.Records as bibtex_records
+use Rattle.bibtex_answers.specs.Names as bibtex_names
+use Rattle.bibtex_answers.specs.Labels as bibtex_labels
 use Rattle.bibtex_ris.specs.Ris as bibtex_texts
 use Rattle.bibtex_answers.specs.StyleMacros.{with_style, place_in_file}
 use Rattle.bib_run.specs.EditAnswer.{whole}
@@ -59,7 +60,7 @@ use Rattle.bib_words.specs.declared.verbs.Question.TheVariants.{Check, Show, Ent
 use Rattle.bib_words.specs.declared.verbs.Verb.{Verb}
 use Rattle.bib_words.specs.declared.verbs.Verb.TheVariants.{Asks, Cat, Lint, Names, Explain, Edit, Import, Insert, Merge, Diff, Undo, Redo, Log, Forget}
 use Rattle.bib_words.specs.Verbs.{verb_of}
-use Rattle.bib_run.specs.Answers.{Answers, AnswersBibtex, AnswersQuestion, IsEditsAnswer, IsWholeAnswer, question_answer, key_word, template_word}
+use Rattle.bib_run.specs.Answers.{Answers, AnswersBibtex, AnswersNames, AnswersQuestion, IsEditsAnswer, IsWholeAnswer, question_answer, key_word, template_word}
 use Rattle.bib_run.specs.OneAnswer.{one_answer}
 use Rattle.bib_run.proofs.StoredRuns.{not_unopened, not_unfit, not_refused_with, opened-is}
 
@@ -117,7 +118,7 @@ one_bibtex Json command file = one_as_bibtex (bibtex_records.json_answer (key_wo
 one_bibtex Ris command file = one_as_bibtex (bibtex_texts.ris_answer command.dropped command.plain (key_words command)) file
 one_bibtex Check command file = λ a b none also. absurd none
 one_bibtex Entry command file = λ a b none also. absurd none
-one_bibtex Labels command file = λ a b none also. absurd none
+one_bibtex Labels command file = one_as_bibtex (bibtex_labels.labels_answer (key_words command)) file
 one_bibtex NewKeys command file = λ a b none also. absurd none
 one_bibtex Extract command file = λ a b none also. absurd none
 
@@ -174,6 +175,13 @@ one_names : (depth : ℕ) (key template file : Text) → One (IsNamesAnswer dept
 one_names depth key template file a b x y =
     one_of_file (names_answer depth key y.pattern) file a b
     (subst (λ (o : Option Pattern). AnswersFile (names_answer depth key o) file a) (one_pattern template x.pattern y.pattern x.spells y.spells) x.answers) y.answers
+
+one_printed : (command : Command) (file : Text) → One (AnswersNames command file)
+one_printed command file a b (AnswersNames.names_as_ever off is) (AnswersNames.names_as_ever off' is') = one_names command.depth (key_word command) (template_word command) file a b is is'
+one_printed command file a b (AnswersNames.names_as_ever off is) (AnswersNames.names_as_bibtex on is') = absurd (false≢true (sym off ∙ on))
+one_printed command file a b (AnswersNames.names_as_bibtex on is) (AnswersNames.names_as_ever off is') = absurd (false≢true (sym off ∙ on))
+one_printed command file a b (AnswersNames.names_as_bibtex on is) (AnswersNames.names_as_bibtex on' is') =
+    one_as_bibtex (bibtex_names.names_answer (key_word command) (template_word command)) file a b is is'
 
 -- ---- sessions
 
@@ -430,7 +438,7 @@ one_of_verb : (verb : Verb) (command : Command) (file : Text) (journal : Option 
 one_of_verb (Asks question) command file journal input other undiffed = one_question question command file
 one_of_verb Cat command file journal input other undiffed = one_cat file
 one_of_verb Lint command file journal input other undiffed = one_lint (key_words command) command.cited (first_word command) file
-one_of_verb Names command file journal input other undiffed = one_names command.depth (key_word command) (template_word command) file
+one_of_verb Names command file journal input other undiffed = one_printed command file
 one_of_verb Explain command file journal input other undiffed = absurd (other refl)
 one_of_verb Edit command file journal input other undiffed = one_whole command file journal input
 one_of_verb Import command file journal input other undiffed =

@@ -12,7 +12,6 @@ use Rattle.std.proofs.lemmas.List.Sums.{sum_by-cons}
 use Rattle.bib_spec.specs.Texts.{is_empty}
 use Rattle.bib_spec.proofs.Names.{eq-true}
 use Rattle.history_spec.specs.Steps.{IsSound, label_of, history_of}
-use Rattle.bib_data.specs.declared.edit.Edit.{Edit}
 use Rattle.bib_data.specs.declared.request.Request.TheVariants as request
 use Rattle.bib_journal.specs.declared.fault.SessionFault.TheVariants.{Memory}
 use Rattle.bib_journal.specs.declared.open_step.OpenStep.{OpenStep}
@@ -36,7 +35,7 @@ use Rattle.bib_words.specs.Verbs.{verb_of, reads_journal}
 use Rattle.bib_run.specs.EditAnswer.{edits_in, taken_back, whole}
 use Rattle.bib_run.specs.Shown.{kept_with}
 use Rattle.bib_run.specs.Answers.{Answers, IsEditsAnswer, IsWholeAnswer}
-use Rattle.bib_run.specs.StoredRuns.{edits_asked, stored, OpensSession, AsksEdits, AsksAdditions, AsksInsertion, Requests, Asks, Accepts, a_run_is_a_session, Call, AreAccepted, runs_of_the_program_are_one_session, one_undo_leads_to_the_first_file, one_redo_leads_to_the_last_file, renames, runs_of_renamings_keep_every_record, IsStoredRun, a_refused_script_leaves_the_disk}
+use Rattle.bib_run.specs.StoredRuns.{edits_asked, stored, OpensSession, AsksEdits, AsksAdditions, AsksInsertion, Requests, Asks, IsSession, a_run_is_a_session, Call, AreAccepted, runs_of_the_program_are_one_session, one_undo_leads_to_the_first_file, one_redo_leads_to_the_last_file, renames, runs_of_renamings_keep_every_record, IsStoredRun, a_refused_script_leaves_the_disk}
 
 -- ---- scripts
 
@@ -218,9 +217,6 @@ not_refused_with true file journal opened message opens (IsUnopened.file _ kind 
 
 -- ---- one run
 
-abbrev IsSession : Command → Text → KeptSteps → OnDisk → Type 0
-IsSession command input kept new = (accepted : List Request) × (one : IsOneSession (ended accepted) kept new) × Accepts command input accepted kept one.closed
-
 -- the run is a session of these requests, if the steps that the session keeps open from the new disk
 as_session : (command : Command) (input : Text) (kept : KeptSteps) (new : OnDisk) (requests : List Request) (done : ℕ) (fault : Option SessionFault) (reached : SessionState)
     → Asks command kept.present input requests → fault ≢ Some Memory → Performs requests done fault (idle kept) reached → Opens new.file new.journal reached.steps
@@ -278,7 +274,7 @@ fits : (new_journal : Bool) (file : Text) (journal : Option Text) (kept : KeptSt
 fits new_journal file journal kept opens = OpensWith.fitting (record { opens = opens; closed = refl })
 
 -- requests of a command with this verb
-asked : (verb : Verb) (command : Command) (present input : Text) (requests : List Request) → verb_of command.name ≡ Some verb → Requests verb command present input requests
+pub asked : (verb : Verb) (command : Command) (present input : Text) (requests : List Request) → verb_of command.name ≡ Some verb → Requests verb command present input requests
     → Asks command present input requests
 asked verb command present input requests named asks = subst (λ (v : Option Verb). IsSomeAnd v (λ w. Requests w command present input requests)) (sym named) asks
 
@@ -315,7 +311,7 @@ edited_run command input kept old new answer requests message opens asks scripte
     (λ none. no_edit_changes (take has.done requests) (idle kept) has.closed (some-pass is_scripted has.done requests scripted) none has.performs.did)
     (stores ∙ ap (λ (a : Answer). stored old a.outcome) has.answered)
 
-edit_run : (command : Command) (input : Text) (kept : KeptSteps) (old new : OnDisk) (answer : Answer) → Opens old.file old.journal kept → verb_of command.name ≡ Some verbs.Edit
+pub edit_run : (command : Command) (input : Text) (kept : KeptSteps) (old new : OnDisk) (answer : Answer) → Opens old.file old.journal kept → verb_of command.name ≡ Some verbs.Edit
     → length command.words ≡ 1 → IsEditAnswer command.new_journal old.file old.journal input answer → new ≡ stored old answer.outcome → IsSession command input kept new
 edit_run command input kept old new answer opens named lone (AnswersSession.answered opened with (AnswersInput.within short has)) stores =
     edited_run command input kept old new answer (said_of input).requests (stop_line (said_of input)) opens (script_asks command kept.present input named lone) (lines_scripted 1 (lines_of input))
@@ -325,7 +321,7 @@ edit_run command input kept old new answer opens named lone (AnswersSession.answ
 edit_run command input kept old new answer opens named lone (AnswersSession.unopened is) stores =
     absurd (not_refused_with command.new_journal old.file old.journal (idle kept) is.message (fits command.new_journal old.file old.journal kept opens) is.why)
 
-words_run : (command : Command) (input : Text) (kept : KeptSteps) (old new : OnDisk) (answer : Answer) → Opens old.file old.journal kept → verb_of command.name ≡ Some verbs.Edit
+pub words_run : (command : Command) (input : Text) (kept : KeptSteps) (old new : OnDisk) (answer : Answer) → Opens old.file old.journal kept → verb_of command.name ≡ Some verbs.Edit
     → length command.words ≢ 1 → IsWordsAnswer command.new_journal (key_words command) old.file old.journal answer → new ≡ stored old answer.outcome → IsSession command input kept new
 words_run command input kept old new answer opens named more (AnswersSession.answered opened with (HasEditedByWords.said requests said has)) stores =
     edited_run command input kept old new answer requests fault_message opens (words_ask command kept.present input (Some requests) named more said) (words_scripted (key_words command) requests said)
@@ -335,7 +331,7 @@ words_run command input kept old new answer opens named more (AnswersSession.ans
 words_run command input kept old new answer opens named more (AnswersSession.unopened is) stores =
     absurd (not_refused_with command.new_journal old.file old.journal (idle kept) is.message (fits command.new_journal old.file old.journal kept opens) is.why)
 
-turn_run : (command : Command) (input : Text) (kept : KeptSteps) (old new : OnDisk) (answer : Answer) (word : Text) (request : Request) → Opens old.file old.journal kept
+pub turn_run : (command : Command) (input : Text) (kept : KeptSteps) (old new : OnDisk) (answer : Answer) (word : Text) (request : Request) → Opens old.file old.journal kept
     → Asks command kept.present input (replicate command.n request) → IsTurnAnswer word request command.n old.file old.journal answer → new ≡ stored old answer.outcome
     → IsSession command input kept new
 turn_run command input kept old new answer word request opens asks (IsTurnAnswer.turned turned turns is) stores =
@@ -364,7 +360,7 @@ read_run command input kept old new answer opens named (HasImported.read a adds 
 read_run command input kept old new answer opens named (HasImported.unread fault told refuses is) stores =
     asks_nothing command input kept old new (asked verbs.Import command kept.present input [] named (AsksAdditions.no_text fault told refuses)) opens (stores ∙ ap (λ (a : Answer). stored old a.outcome) is)
 
-import_run : (command : Command) (input : Text) (kept : KeptSteps) (old new : OnDisk) (answer : Answer) → Opens old.file old.journal kept → verb_of command.name ≡ Some verbs.Import
+pub import_run : (command : Command) (input : Text) (kept : KeptSteps) (old new : OnDisk) (answer : Answer) → Opens old.file old.journal kept → verb_of command.name ≡ Some verbs.Import
     → IsImportAnswer command old.file old.journal input answer → new ≡ stored old answer.outcome → IsSession command input kept new
 import_run command input kept old new answer opens named (AnswersSession.answered opened with (AnswersInput.within short has)) stores =
     read_run command input kept old new answer opens named
@@ -396,7 +392,7 @@ text_run command input kept old new answer opens named (HasInserted.asked at say
 text_run command input kept old new answer opens named (HasInserted.no_position none is) stores =
     asks_nothing command input kept old new (asked verbs.Insert command kept.present input [] named (AsksInsertion.no_position none)) opens (stores ∙ ap (λ (a : Answer). stored old a.outcome) is)
 
-insert_run : (command : Command) (input : Text) (kept : KeptSteps) (old new : OnDisk) (answer : Answer) → Opens old.file old.journal kept → verb_of command.name ≡ Some verbs.Insert
+pub insert_run : (command : Command) (input : Text) (kept : KeptSteps) (old new : OnDisk) (answer : Answer) → Opens old.file old.journal kept → verb_of command.name ≡ Some verbs.Insert
     → IsInsertAnswer command.new_journal (key_words command) old.file old.journal input answer → new ≡ stored old answer.outcome → IsSession command input kept new
 insert_run command input kept old new answer opens named (AnswersSession.answered opened with (AnswersInput.within short has)) stores =
     text_run command input kept old new answer opens named

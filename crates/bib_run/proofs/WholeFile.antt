@@ -20,6 +20,8 @@ use Rattle.bibtex_answers.specs.Opened.{AnswersAsBibtex, IsFaultAsBibtex}
 use Rattle.bibtex_answers.specs.Show as bibtex_show
 use Rattle.bibtex_answers.specs.Cite as bibtex_cite
 use Rattle.bibtex_answers.specs.Records as bibtex_records
+use Rattle.bibtex_answers.specs.Names as bibtex_names
+use Rattle.bibtex_answers.specs.Labels as bibtex_labels
 use Rattle.bibtex_ris.specs.Ris as bibtex_texts
 use Rattle.bibtex_answers.specs.StyleMacros.{style_macros, with_style}
 use Rattle.bib_journal.proofs.LoadLemmas.{opened_short}
@@ -37,7 +39,7 @@ use Rattle.bib_diff.specs.Leading.{RefusesDiff}
 use Rattle.diff_answers.specs.Answers as comparing
 use Rattle.diff_answers.specs.Answers.{IsDiffAnswer}
 use Rattle.bib_run.specs.declared.reading.Sources.{Sources}
-use Rattle.bib_run.specs.Answers.{Answers, AnswersBibtex, AnswersQuestion, as_ever, as_bibtex, IsEditsAnswer, IsWholeAnswer, question_answer, key_word, template_word, script, words}
+use Rattle.bib_run.specs.Answers.{Answers, AnswersBibtex, AnswersNames, AnswersQuestion, as_ever, as_bibtex, names_as_ever, names_as_bibtex, IsEditsAnswer, IsWholeAnswer, question_answer, key_word, template_word, script, words}
 use Rattle.bib_run.specs.Sources.{front, fronts}
 use Rattle.bib_run.specs.Inputs as inputs
 use Rattle.bib_run.specs.Inputs.{answered}
@@ -128,7 +130,7 @@ AnswersBibtex-long Json command bytes answer long = AnswersAsBibtex-long (bibtex
 AnswersBibtex-long Ris command bytes answer long = AnswersAsBibtex-long (bibtex_texts.ris_answer command.dropped command.plain (key_words command)) bytes answer long
 AnswersBibtex-long Check command bytes answer long = λ none. absurd none
 AnswersBibtex-long Entry command bytes answer long = λ none. absurd none
-AnswersBibtex-long Labels command bytes answer long = λ none. absurd none
+AnswersBibtex-long Labels command bytes answer long = AnswersAsBibtex-long (bibtex_labels.labels_answer (key_words command)) bytes answer long
 AnswersBibtex-long NewKeys command bytes answer long = λ none. absurd none
 AnswersBibtex-long Extract command bytes answer long = λ none. absurd none
 
@@ -206,6 +208,11 @@ IsNamesAnswer-long : (depth : ℕ) (key template bytes : Text) (answer : Answer)
 IsNamesAnswer-long depth key template bytes answer long a =
     record { pattern = a.pattern; spells = a.spells; answers = AnswersFile-long (names_answer depth key a.pattern) bytes answer long a.answers }
 
+AnswersNames-long : (command : Command) (bytes : Text) (answer : Answer) → file_limit < length bytes → AnswersNames command (take (file_limit + 1) bytes) answer → AnswersNames command bytes answer
+AnswersNames-long command bytes answer long (names_as_ever off is) = names_as_ever off (IsNamesAnswer-long command.depth (key_word command) (template_word command) bytes answer long is)
+AnswersNames-long command bytes answer long (names_as_bibtex on is) =
+    names_as_bibtex on (AnswersAsBibtex-long (bibtex_names.names_answer (key_word command) (template_word command)) bytes answer long is)
+
 IsWholeAnswer-long : (command : Command) (bytes : Text) (journal : Option Text) (input : Text) (answer : Answer) → file_limit < length bytes
     → IsWholeAnswer command (take (file_limit + 1) bytes) journal input answer → IsWholeAnswer command bytes journal input answer
 IsWholeAnswer-long command bytes journal input answer long a =
@@ -228,7 +235,7 @@ Answers-long : (verb : Verb) (command : Command) (bytes : Text) (journal : Optio
 Answers-long (Asks question) command bytes journal input answer long = AnswersQuestion-long question command bytes answer long
 Answers-long Cat command bytes journal input answer long = IsCatAnswer-long bytes answer long
 Answers-long Lint command bytes journal input answer long = IsLintAnswer-long (key_words command) command.cited (first_word command) bytes answer long
-Answers-long Names command bytes journal input answer long = IsNamesAnswer-long command.depth (key_word command) (template_word command) bytes answer long
+Answers-long Names command bytes journal input answer long = AnswersNames-long command bytes answer long
 Answers-long Explain command bytes journal input answer long = λ given. given
 Answers-long Edit command bytes journal input answer long = IsWholeAnswer-long command bytes journal input answer long
 Answers-long Insert command bytes journal input answer long = AnswersSession-long command.new_journal (AnswersInput (HasInserted (key_words command)) input) bytes journal answer long

@@ -27,6 +27,8 @@ use Rattle.bibtex_answers.specs.Opened.{AnswersAsBibtex}
 use Rattle.bibtex_answers.specs.Show as bibtex_show
 use Rattle.bibtex_answers.specs.Cite as bibtex_cite
 use Rattle.bibtex_answers.specs.Records as bibtex_records
+use Rattle.bibtex_answers.specs.Names as bibtex_names
+use Rattle.bibtex_answers.specs.Labels as bibtex_labels
 use Rattle.bibtex_ris.specs.Ris as bibtex_texts
 use Rattle.bib_data.specs.declared.request.Request.TheVariants as request
 use Rattle.bib_run.specs.EditAnswer.{IsEditAnswer, IsWordsAnswer, whole}
@@ -71,6 +73,7 @@ abbrev pub AnswersBibtex : Question → Command → Text → Answer → Type 0
 AnswersBibtex Show command = AnswersAsBibtex (bibtex_show.show_answer (key_word command))
 AnswersBibtex Cite command = AnswersAsBibtex (bibtex_cite.cite_answer command.strict (key_words command) command.n)
 AnswersBibtex Json command = AnswersAsBibtex (bibtex_records.json_answer (key_words command))
+AnswersBibtex Labels command = AnswersAsBibtex (bibtex_labels.labels_answer (key_words command))
 AnswersBibtex Ris command = AnswersAsBibtex (bibtex_texts.ris_answer command.dropped command.plain (key_words command))
 AnswersBibtex _ command = λ file answer. ⊥
 
@@ -78,6 +81,11 @@ AnswersBibtex _ command = λ file answer. ⊥
 pub data AnswersQuestion (question : Question) (command : Command) (file : Text) (answer : Answer) : Type 0 where
   as_ever : command.bibtex ≡ false → AnswersFile (question_answer question command) file answer → AnswersQuestion question command file answer
   as_bibtex : command.bibtex ≡ true → AnswersBibtex question command file answer → AnswersQuestion question command file answer
+
+-- what `names` answers to its file: to what the file says, or with `--bibtex` to what BibTeX reads in it
+pub data AnswersNames (command : Command) (file : Text) (answer : Answer) : Type 0 where
+  names_as_ever : command.bibtex ≡ false → IsNamesAnswer command.depth (key_word command) (template_word command) file answer → AnswersNames command file answer
+  names_as_bibtex : command.bibtex ≡ true → AnswersAsBibtex (bibtex_names.names_answer (key_word command) (template_word command)) file answer → AnswersNames command file answer
 
 -- what `edit` answers: to a script, or to the words of one edit if words follow the file
 pub data IsEditsAnswer (command : Command) (file : Text) (journal : Option Text) (input : Text) (answer : Answer) : Type 0 where
@@ -95,7 +103,7 @@ abbrev pub Answers : Verb → Command → Text → Option Text → Text → Answ
 Answers (Asks question) command file journal input = AnswersQuestion question command file
 Answers Cat command file journal input = IsCatAnswer file
 Answers Lint command file journal input = IsLintAnswer (key_words command) command.cited (first_word command) file
-Answers Names command file journal input = IsNamesAnswer command.depth (key_word command) (template_word command) file
+Answers Names command file journal input = AnswersNames command file
 Answers Explain command file journal input = IsExplainAnswer (first_word command)
 Answers Edit command file journal input = IsWholeAnswer command file journal input
 Answers Import command file journal input = IsImportAnswer command file journal input

@@ -18,5 +18,6 @@ pub mod Log
 pub mod Apart
 pub mod Ris
 pub mod StoredRuns
+pub mod AnyRun
 pub mod OneAnswer
 pub mod Explaining

@@ -114,12 +114,15 @@ pub record Accepts (command : Command) (input : Text) (accepted : List Request) 
 
 -- ---- one run
 
--- A run of such a command is one session that does the accepted requests of the command, and then ends a step that is still open.
--- The file and the journal that it leaves open as what that session keeps.
+-- One session goes on from these steps, does the requests of the command that it accepts, and then ends a step that is still open.
+-- The file and the journal on the disk open as what that session keeps.
+abbrev pub IsSession : Command → Text → KeptSteps → OnDisk → Type 0
+IsSession command input kept new = (accepted : List Request) × (one : IsOneSession (ended accepted) kept new) × Accepts command input accepted kept one.closed
+
+-- A run of such a command is one session that goes on from what the file and its journal keep, and leaves both.
 abbrev pub a_run_is_a_session : Type 0
 a_run_is_a_session = (command : Command) (input : Text) (kept : KeptSteps) (old new : OnDisk) → OpensSession command → Opens old.file old.journal kept
-    → IsStoredRun command input old new
-    → (accepted : List Request) × (one : IsOneSession (ended accepted) kept new) × Accepts command input accepted kept one.closed
+    → IsStoredRun command input old new → IsSession command input kept new
 
 -- ---- runs one after another
 

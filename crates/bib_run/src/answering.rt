@@ -1,12 +1,12 @@
 //! What each command answers to the bytes of its sources.
 
-ghost use Rattle.std.specs.Prelude.{◌≡◌, ◌≤◌, true, IfOk, option_map, length};
+ghost use Rattle.std.specs.Prelude.{◌≡◌, ◌≤◌, ◌||◌, true, false, IfOk, option_map, length};
 ghost use Rattle.bib_words.specs.Command.{HasItsWords, IsCommand};
-ghost use Rattle.bib_words.specs.Verbs.{question_shape, shape, takes_bibtex};
-ghost use Rattle.bib_words.specs.declared.verbs.Verb.TheVariants.{Asks};
+ghost use Rattle.bib_words.specs.Verbs.{adds_change, question_shape, shape, takes_bibtex};
+ghost use Rattle.bib_words.specs.declared.verbs.Verb.TheVariants.{Asks, Names};
 ghost use Rattle.bib_answers.specs.Opened.{AnswersFile};
-ghost use Rattle.bib_run.specs.Answers.{Answers, AnswersBibtex, AnswersQuestion, IsAnswer, IsEditsAnswer, IsWholeAnswer, IsStoredAnswer, question_answer};
-ghost use Rattle.bib_run.specs.Shown.{printed, shown, without_journal, kept_with};
+ghost use Rattle.bib_run.specs.Answers.{Answers, AnswersBibtex, AnswersNames, AnswersQuestion, IsAnswer, IsEditsAnswer, IsWholeAnswer, IsStoredAnswer, question_answer};
+ghost use Rattle.bib_run.specs.Shown.{printed, shown, without_journal, kept_with, IsUpTo};
 
 use crate::commands::edit::{answer_edit, answer_words, whole};
 use crate::commands::explain::answer_explain;
@@ -21,9 +21,12 @@ use bib_answers::{
     Answer, Outcome, answer_cat, answer_check, answer_cite, answer_entry, answer_extract,
     answer_json, answer_labels, answer_lint, answer_names, answer_newkeys, answer_show, outcome_of,
 };
-use bib_scan::Text;
+use bib_text::Text;
 use bib_words::{Command, Question, Verb};
-use bibtex_answers::{answer_cite_as_bibtex, answer_json_as_bibtex, answer_show_as_bibtex};
+use bibtex_answers::{
+    answer_cite_as_bibtex, answer_json_as_bibtex, answer_labels_as_bibtex, answer_names_as_bibtex,
+    answer_show_as_bibtex,
+};
 use bibtex_ris::answer_ris_as_bibtex;
 use diff_answers::answer_diff;
 use std::alloc::{AllocError, Global};
@@ -69,9 +72,17 @@ fn answer_of(
     requires { IsCommand command.now }
     ensures { IfOk result (IsAnswer command.now file.items (option_map (λ text. text.now) journal.entry) input.now) }
 {
-    let stored = stored_answer_of(alloc, command, file, journal, input)?;
+    let no_journal = drops_journal(command);
+    let stored = stored_answer_of(alloc, command, file, journal, no_journal, input)?;
     let kept = kept_with(command.no_journal, stored);
     Ok(shown(alloc, command.print, kept))
+}
+
+/// Whether no journal of the command's answer is stored.
+fn drops_journal(command: &Command) -> bool
+    ensures { result ≡ (command.now.no_journal || command.now.print) }
+{
+    command.no_journal || command.print
 }
 
 /// The answer with what is stored of it, with `--no-journal` or without.
@@ -131,24 +142,53 @@ fn printed(alloc: Global, answer: Answer) -> Answer
     }
 }
 
-/// The command's answer when what is new is to be stored.
+/// The command's answer when what is new is to be stored. With `no_journal` its journal is not stored, and need not be made.
 fn stored_answer_of(
     alloc: Global,
     command: &Command,
     file: Vec<u8>,
     journal: Option<&[u8]>,
+    no_journal: bool,
     input: &[u8],
 ) -> Result<Answer, AllocError>
     requires { IsCommand command.now }
-    ensures { IfOk result (IsStoredAnswer command.now file.items (option_map (λ text. text.now) journal.entry) input.now) }
+    ensures { IfOk result (IsUpTo no_journal (IsStoredAnswer command.now file.items (option_map (λ text. text.now) journal.entry) input.now)) }
 {
-    match command.verb() {
-        Some(verb) => answer_verb(alloc, verb, command, file, journal, input),
-        None => unreachable!(),
+    let Some(verb) = command.verb() else {
+        unreachable!()
+    };
+    if verb.adds_change() {
+        return answer_change(alloc, verb, command, file, journal, no_journal, input);
+    }
+    answer_verb(alloc, verb, command, file, journal, input)
+}
+
+/// What each command that adds a change answers. With `no_journal`, `edit` and `import` make no journal.
+fn answer_change(
+    alloc: Global,
+    verb: Verb,
+    command: &Command,
+    file: Vec<u8>,
+    journal: Option<&[u8]>,
+    no_journal: bool,
+    input: &[u8],
+) -> Result<Answer, AllocError>
+    requires words { HasItsWords (shape verb) command.now }
+    requires adds { adds_change verb ≡ true }
+    ensures { IfOk result (IsUpTo no_journal (Answers verb command.now file.items (option_map (λ text. text.now) journal.entry) input.now)) }
+{
+    match verb {
+        Verb::Edit => answer_whole(alloc, command, file, journal, no_journal, input),
+        Verb::Import => answer_import(alloc, command, file, journal, no_journal, input),
+        Verb::Insert => {
+            let words = command.words_after_file();
+            answer_insert(alloc, file, journal, command.new_journal, words, input)
+        }
+        _ => unreachable!(),
     }
 }
 
-/// What each command answers.
+/// What each other command answers.
 fn answer_verb(
     alloc: Global,
     verb: Verb,
@@ -159,9 +199,9 @@ fn answer_verb(
 ) -> Result<Answer, AllocError>
     requires words { HasItsWords (shape verb) command.now }
     requires bibtex { command.now.bibtex ≡ true → takes_bibtex verb ≡ true }
+    requires other { adds_change verb ≡ false }
     ensures { IfOk result (Answers verb command.now file.items (option_map (λ text. text.now) journal.entry) input.now) }
 {
-    let new_journal = command.new_journal;
     match verb {
         Verb::Asks(question) => answer_asked(alloc, question, command, file),
         Verb::Cat => answer_cat(alloc, file),
@@ -170,17 +210,8 @@ fn answer_verb(
             let cited = command.cited.as_slice();
             answer_lint(alloc, command.word(0), file, ignored, cited)
         }
-        Verb::Names => {
-            let (key, template) = (command.word(1), command.word(2));
-            answer_names(alloc, file, key, command.depth, template)
-        }
+        Verb::Names => answer_printed_names(alloc, command, file),
         Verb::Explain => answer_explain(alloc, command.word(0)),
-        Verb::Edit => answer_whole(alloc, command, file, journal, input),
-        Verb::Import => answer_import(alloc, command, file, journal, input),
-        Verb::Insert => {
-            let words = command.words_after_file();
-            answer_insert(alloc, file, journal, new_journal, words, input)
-        }
         Verb::Diff => {
             let (old, new) = (command.word(0), command.word(1));
             answer_diff(alloc, old, new, file.as_slice(), input)
@@ -190,6 +221,7 @@ fn answer_verb(
         Verb::Log => answer_log(alloc, file, journal),
         Verb::Forget => answer_forget(alloc, file),
         Verb::Merge => answer_apart(alloc),
+        Verb::Edit | Verb::Import | Verb::Insert => unreachable!(),
     }
 }
 
@@ -210,7 +242,23 @@ fn answer_asked(
     answer_question(alloc, question, command, file)
 }
 
-/// What each command that takes `--bibtex` answers with it.
+/// What `names` answers, with `--bibtex` or without.
+fn answer_printed_names(
+    alloc: Global,
+    command: &Command,
+    file: Vec<u8>,
+) -> Result<Answer, AllocError>
+    requires { HasItsWords (shape Names) command.now }
+    ensures { IfOk result (AnswersNames command.now file.items) }
+{
+    let (key, template) = (command.word(1), command.word(2));
+    if !command.bibtex {
+        return answer_names(alloc, file, key, command.depth, template);
+    }
+    answer_names_as_bibtex(alloc, file, key, template)
+}
+
+/// What each command that reads a file alone and takes `--bibtex` answers with it.
 fn answer_as_bibtex(
     alloc: Global,
     question: Question,
@@ -227,6 +275,7 @@ fn answer_as_bibtex(
             let keys = command.words_after_file();
             answer_cite_as_bibtex(alloc, file, keys, command.n, command.strict)
         }
+        Question::Labels => answer_labels_as_bibtex(alloc, file, command.words_after_file()),
         Question::Json => answer_json_as_bibtex(alloc, file, command.words_after_file()),
         Question::Ris => {
             let keys = command.words_after_file();
@@ -275,12 +324,13 @@ fn answer_whole(
     command: &Command,
     file: Vec<u8>,
     journal: Option<&[u8]>,
+    no_journal: bool,
     input: &[u8],
 ) -> Result<Answer, AllocError>
     requires { 1 ≤ length command.now.words }
-    ensures { IfOk result (IsWholeAnswer command.now file.items (option_map (λ text. text.now) journal.entry) input.now) }
+    ensures { IfOk result (IsUpTo no_journal (IsWholeAnswer command.now file.items (option_map (λ text. text.now) journal.entry) input.now)) }
 {
-    let made = answer_edits(alloc, command, file, journal, input)?;
+    let made = answer_edits(alloc, command, file, journal, no_journal, input)?;
     whole(alloc, command.all_or_nothing, made)
 }
 
@@ -290,19 +340,21 @@ fn answer_edits(
     command: &Command,
     file: Vec<u8>,
     journal: Option<&[u8]>,
+    no_journal: bool,
     input: &[u8],
 ) -> Result<Answer, AllocError>
     requires { 1 ≤ length command.now.words }
-    ensures { IfOk result (IsEditsAnswer command.now file.items (option_map (λ text. text.now) journal.entry) input.now) }
+    ensures { IfOk result (IsUpTo no_journal (IsEditsAnswer command.now file.items (option_map (λ text. text.now) journal.entry) input.now)) }
 {
     if command.words.as_slice().len() == 1 {
-        return answer_edit(alloc, file, journal, command.new_journal, input);
+        return answer_edit(alloc, file, journal, command.new_journal, no_journal, input);
     }
     answer_words(
         alloc,
         file,
         journal,
         command.new_journal,
+        no_journal,
         command.words_after_file(),
     )
 }

@@ -11,7 +11,7 @@ use crate::answering::answer;
 use crate::reading::{Sources, read_beside};
 use crate::writing::write_answer;
 use bib_answers::{Outcome, outcome_of};
-use bib_scan::Text;
+use bib_text::Text;
 use bib_words::{Command, status};
 use std::alloc::Global;
 use std::io::{Read, Write};

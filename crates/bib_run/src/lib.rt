@@ -22,7 +22,8 @@ pub use bib_words::Command;
 pub use commands::ris::ris_in;
 pub use engine::{run, run_read};
 pub use laws::{
-    a_command_has_one_answer, a_refused_script_leaves_the_disk, runs_of_the_program_are_one_session,
+    a_command_has_one_answer, a_refused_script_leaves_the_disk, any_run_keeps_the_history,
+    runs_of_the_program_are_one_session,
 };
 pub use messages::{READ_FAULT, WRITE_FAULT};
 pub use reading::{Sources, read_sources};

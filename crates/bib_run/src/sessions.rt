@@ -5,13 +5,14 @@ ghost use Rattle.bib_spec.specs.Text.{Text as FileText};
 ghost use Rattle.bib_journal.specs.Session.{RefusesOpen};
 ghost use Rattle.bib_answers.specs.Messages.{fault_name};
 ghost use Rattle.bib_run.specs.Sessions.{IsUnopenedAnswer, OpensWith, judged_journal, is_of_journal, bad_journal_line, fault_line, outcome_after};
+ghost use Rattle.bib_run.specs.Shown.{SavesUpTo};
 ghost use Rattle.bib_run.specs.SessionNames.{session_fault_name};
 
 use crate::messages::JOURNAL_MISMATCH;
 use bib_answers::{Answer, Outcome, fault_name, outcome_of, refused, unread};
 use bib_journal::{Saved, Session, SessionFault};
-use bib_scan::{Text, copied};
 use bib_store::Paged;
+use bib_text::{Text, copied};
 use bib_words::status;
 use std::alloc::{AllocError, Global};
 
@@ -69,6 +70,37 @@ pub fn unopened(alloc: Global, fault: SessionFault) -> Result<Answer, AllocError
         SessionFault::BadJournal(place) => Ok(refused(alloc, bad_journal_line(alloc, place)?)),
         SessionFault::JournalMismatch => Ok(refused(alloc, copied(alloc, JOURNAL_MISMATCH)?)),
         _ => Err(AllocError),
+    }
+}
+
+/// The file and the journal that a session leaves. A journal that is not kept is not made: in its place is an empty text.
+pub fn saved_up_to(
+    alloc: Global,
+    session: &Session<Paged>,
+    no_journal: bool,
+) -> Result<Saved, AllocError>
+    ensures { IfOk result (SavesUpTo no_journal session.now.steps) }
+{
+    session.is_sound();
+    if no_journal {
+        return file_alone(alloc, session);
+    }
+    match session.saved() {
+        Ok(saved) => Ok(saved),
+        Err(_) => Err(AllocError),
+    }
+}
+
+/// The file that a session leaves, without its journal.
+fn file_alone(alloc: Global, session: &Session<Paged>) -> Result<Saved, AllocError>
+    ensures { IfOk result (λ saved. saved.file ≡ session.now.steps.present) }
+{
+    match session.bytes() {
+        Ok(file) => Ok(Saved {
+            file,
+            journal: Text::empty(alloc),
+        }),
+        Err(_) => Err(AllocError),
     }
 }
 

@@ -7,7 +7,7 @@ use crate::Tap;
 use crate::messages::WRITE_FAULT;
 use crate::sink::write_whole;
 use bib_answers::{Answer, Outcome, outcome_of};
-use bib_scan::{Text, copied};
+use bib_text::{Text, copied};
 use bib_words::status;
 use std::alloc::Global;
 use std::io::Write;

@@ -12,8 +12,9 @@ ghost use Rattle.bib_sayings.specs.FieldTables.{IsTableOfRows, names_of, same_te
 
 use crate::field_table::{FieldTable, table_of};
 use crate::texts::field_text_of;
-use bib_scan::{Fields, ItemView, same_folded};
+use bib_scan::{Fields, ItemView};
 use bib_store::MacrosAt;
+use bib_text::same_folded;
 use std::alloc::{AllocError, Global};
 
 /// Whether two values have the same field text, or both are absent.

@@ -4,7 +4,8 @@ ghost use Rattle.std.specs.Prelude.{◌≡◌, ◌≤◌, true, length, IfOk};
 ghost use Rattle.bib_spec.specs.Bytes.{name_limit};
 ghost use Rattle.bib_sayings.specs.FieldTables.{IsTableFound};
 
-use bib_scan::{Fields, NAME_LIMIT};
+use bib_scan::Fields;
+use bib_text::NAME_LIMIT;
 use folded_map::FoldedMap;
 use std::alloc::{AllocError, Global};
 

@@ -7,7 +7,8 @@ ghost use Rattle.bib_scan.specs.ValueParts.{IsPartsOf};
 ghost use Rattle.bib_value.specs.Macros.{without};
 ghost use Rattle.bib_value.specs.Raw.{OfValue};
 
-use bib_scan::{Parts, Text, read_value};
+use bib_scan::{Parts, read_value};
+use bib_text::Text;
 use bib_value::{MacroTable, field_text, raw_text};
 use std::alloc::{AllocError, Global};
 

@@ -1,5 +1,5 @@
-//! Reads `.bib` files without losing a byte. It knows bytes and the grammar, and not what a field means.
-//! It promises the one reading of a file with its places, or the first byte at which no valid file continues.
+//! Reads `.bib` files without losing a byte. It knows bytes and the grammar, and which texts are names, keys and types, and not what a
+//! field means. It promises the one reading of a file with its places, or the first byte at which no valid file continues.
 #![tactic(auto)]
 
 mod body;
@@ -21,7 +21,6 @@ mod text;
 mod value;
 mod view;
 
-pub use bib_text::{NAME_LIMIT, Seq, Text, copied, same_folded};
 pub use fault::ReadFault;
 pub use fields::{FieldView, Fields};
 pub use laws::{clean_before_sign, cut_ends, joined_readings, one_fault, one_place, one_reading};

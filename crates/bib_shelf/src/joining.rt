@@ -3,7 +3,7 @@
 ghost use Rattle.std.specs.Prelude.{◌≡◌, ◌++◌, ◌∷◌, [], length, IfOk};
 ghost use Rattle.shelf_spec.specs.Shelf.{seam};
 
-use bib_scan::{Seq, Text};
+use bib_text::{Seq, Text};
 use std::alloc::{AllocError, Global};
 
 /// The bytes between two files of a shelf: a comment, after which nothing of the file before goes on. It takes no memory.

@@ -11,8 +11,9 @@ use crate::fault::ShelfFault;
 use crate::joining::Joined;
 use crate::locating::locate;
 use crate::reading::{check_each, read_each};
-use bib_scan::{ReadFault, Seq};
+use bib_scan::ReadFault;
 use bib_store::{Database, ItemList, Unopened};
+use bib_text::Seq;
 use std::alloc::Global;
 use std::marker::Model;
 

@@ -11,7 +11,8 @@ ghost use Rattle.bib_store.specs.Bounds.{is_literal, AreLiteral, IsSettledEntry,
 ghost use Rattle.bib_store.specs.Firm.{AreFirm};
 
 use crate::glancing::are_short;
-use bib_scan::{Fields, ItemView, Part, Parts, Text, only_part, read_value, same_folded};
+use bib_scan::{Fields, ItemView, Part, Parts, only_part, read_value};
+use bib_text::{Text, same_folded};
 use std::alloc::Global;
 
 /// What is known of all items, so that none has to be read again when a macro gets another text.

@@ -16,7 +16,8 @@ use crate::window::{Window, text_of};
 use bib_data::Piece;
 use bib_items::{ItemList, StoreFault};
 use bib_pieces::{apply, fits};
-use bib_scan::{FILE_LIMIT, Layout, Note, Seq, Text, copied, read};
+use bib_scan::{FILE_LIMIT, Layout, Note, read};
+use bib_text::{Seq, Text, copied};
 use std::alloc::{AllocError, Global};
 
 /// A window, the text that replaces it, the places of that text's items, and the length of the file afterwards.

@@ -16,7 +16,8 @@ use crate::gathering::lower;
 use crate::measuring::short_field_text;
 use bib_definitions::MacrosAt;
 use bib_items::StoreFault;
-use bib_scan::{Fields, Text, same_folded};
+use bib_scan::Fields;
+use bib_text::{Text, same_folded};
 use std::alloc::Global;
 
 /// Whether the name is one of these.

@@ -8,7 +8,7 @@ ghost use Rattle.bib_store.specs.Citing.{AreMarks, with_added};
 use crate::database::Database;
 use crate::record::Cited;
 use bib_items::{ItemList, StoreFault};
-use bib_scan::{Seq, Text};
+use bib_text::{Seq, Text};
 use std::alloc::{AllocError, Global};
 
 /// Whether the list is `*` alone.

@@ -8,7 +8,7 @@ ghost use Rattle.history_spec.specs.Composing.{IsComposable, IsComposableAt, com
 
 use bib_data::Piece;
 use bib_items::StoreFault;
-use bib_scan::Seq;
+use bib_text::Seq;
 use std::alloc::Global;
 
 /// The pieces of two edits in turn, as those of one edit. The pieces of `first` fit some text, and those of `second` fit

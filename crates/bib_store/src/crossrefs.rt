@@ -22,7 +22,8 @@ use crate::bounds::{is_settled_entry, is_settled_value};
 use crate::glancing::{are_short, lacks_crossref};
 use crate::item_fault::ItemFault;
 use crate::measuring::{measure, value_field_text};
-use bib_scan::{FieldView, Fields, ItemView, Note, Text, same_folded};
+use bib_scan::{FieldView, Fields, ItemView, Note};
+use bib_text::{Text, same_folded};
 use bib_value::{MacroTable, ValueFault};
 use std::alloc::Global;
 

@@ -6,7 +6,8 @@ use crate::gathering::{Gathered, lower};
 use crate::record::Expanded;
 use bib_data::Record;
 use bib_items::{ItemList, StoreFault};
-use bib_scan::{ItemView, Seq, Text, copied};
+use bib_scan::ItemView;
+use bib_text::{Seq, Text, copied};
 use std::alloc::Global;
 
 /// Most entries have fewer fields than this. Only time depends on it.

@@ -22,7 +22,8 @@ use crate::tables::Tables;
 use crate::touching::touched;
 use bib_data::Piece;
 use bib_items::ItemList;
-use bib_scan::{FILE_LIMIT, Text};
+use bib_scan::FILE_LIMIT;
+use bib_text::Text;
 use std::alloc::Global;
 
 /// The change that a run of pieces makes. It touches only the front and the first `n` items. It is refused if the pieces

@@ -15,7 +15,8 @@ ghost use Rattle.bib_items.specs.declared.fault.StoreFault.TheVariants.{Memory};
 use crate::measuring::short_field_text;
 use bib_definitions::MacrosAt;
 use bib_items::StoreFault;
-use bib_scan::{Fields, Seq, Text};
+use bib_scan::Fields;
+use bib_text::{Seq, Text};
 use folded_map::FoldedMap;
 use std::alloc::{AllocError, Global};
 

@@ -27,7 +27,8 @@ use crate::item_fault::ItemFault;
 use crate::tables::Tables;
 use bib_definitions::Definitions;
 use bib_items::ItemList;
-use bib_scan::{ItemView, Kind, Note, Text};
+use bib_scan::{ItemView, Kind, Note};
+use bib_text::Text;
 use std::alloc::Global;
 
 /// Whether both are of this kind.

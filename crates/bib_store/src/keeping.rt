@@ -9,7 +9,8 @@ ghost use Rattle.bib_items.specs.Items.{all_stored};
 ghost use Rattle.bib_items.specs.declared.fault.StoreFault.TheVariants.{Memory};
 
 use bib_items::{ItemList, StoreFault};
-use bib_scan::{FILE_LIMIT, Layout, Note, ReadFault, Seq, Text};
+use bib_scan::{FILE_LIMIT, Layout, Note, ReadFault};
+use bib_text::{Seq, Text};
 use std::alloc::Global;
 
 /// A copy of a file's bytes. More bytes than a file may have are refused with 9, and with 10 if memory runs out.

@@ -1,6 +1,6 @@
-//! Keeps the file as a list of items, and replaces pieces of it. It knows what the items say together: entries, keys
-//! and crossrefs; it does not know edits. It promises the reading of the file's bytes, and that pieces that fit give
-//! the reading of the new bytes.
+//! Keeps the file as a list of items, and replaces pieces of it. It knows what the items say together: entries, keys, crossrefs and
+//! macros; it does not know edits. It promises the reading of the file's bytes, and that pieces that fit give the reading of the new
+//! bytes.
 #![tactic(auto)]
 
 mod bounds;

@@ -11,7 +11,8 @@ ghost use Rattle.bib_value.specs.declared.fault.ValueFault.TheVariants.{TextTooL
 ghost use Rattle.bib_items.specs.declared.fault.StoreFault.TheVariants.{Memory as StoreMemory};
 
 use bib_items::StoreFault;
-use bib_scan::{Parts, Text, only_part, read_value};
+use bib_scan::{Parts, only_part, read_value};
+use bib_text::Text;
 use bib_value::{MacroTable, RAW_LIMIT, ValueFault, field_text, part_text, raw_len, raw_text};
 use std::alloc::Global;
 

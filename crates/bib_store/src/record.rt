@@ -1,7 +1,7 @@
 //! What look-ups of records and of cited lists return.
 
 use bib_data::Record;
-use bib_scan::Seq;
+use bib_text::Seq;
 
 /// The record of an entry, with what it inherits, and the number of the entry from which it inherits.
 #[derive(Debug, Drop)]

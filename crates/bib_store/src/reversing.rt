@@ -10,7 +10,7 @@ ghost use Rattle.bib_items.specs.declared.fault.StoreFault.TheVariants.{Memory};
 use bib_data::Piece;
 use bib_items::StoreFault;
 use bib_pieces::reverse_from;
-use bib_scan::Seq;
+use bib_text::Seq;
 use std::alloc::Global;
 
 /// The pieces that lead back from the text that these pieces make: old and new bytes exchanged, at the places of that

@@ -9,7 +9,7 @@ use crate::scanning::Scan;
 use crate::touching::touched;
 use bib_data::Piece;
 use bib_items::{ItemList, StoreFault};
-use bib_scan::Seq;
+use bib_text::Seq;
 
 impl<L: ItemList> Database<L> {
     ghost use Rattle.std.specs.Prelude.{◌≡◌, ◌⊎◌, IfErr, OnOk, OnErr};

@@ -19,7 +19,8 @@ use bib_definitions::Definitions;
 use bib_entries::EntryTable;
 use bib_items::ItemList;
 use bib_numbers::Numbers;
-use bib_scan::{FieldView, ItemView, Kind, Layout, NAME_LIMIT, Note, ReadFault, Reader, Text};
+use bib_scan::{FieldView, ItemView, Kind, Layout, Note, ReadFault, Reader};
+use bib_text::{NAME_LIMIT, Text};
 use std::alloc::Global;
 
 /// The item count is estimated once this many items are read.

@@ -4,7 +4,7 @@ use bib_data::Record;
 use bib_names::{
     Name, NameFault, Template, Word, key_base, label_base, labels, split_name, split_names, text_in,
 };
-use bib_scan::{Seq, Text, copied};
+use bib_text::{Seq, Text, copied};
 use std::alloc::{AllocError, Global};
 use std::test::Fail;
 

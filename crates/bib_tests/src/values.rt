@@ -1,6 +1,7 @@
 //! What values say.
 
-use bib_scan::{ReadFault, Text, is_name, read_value};
+use bib_scan::{ReadFault, is_name, read_value};
+use bib_text::Text;
 use bib_value::{Macros, ValueFault, field_text, raw_len, raw_text};
 use std::alloc::Global;
 use std::test::Fail;

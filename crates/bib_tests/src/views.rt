@@ -2,8 +2,9 @@
 
 use bib_scan::{
     FieldView, ItemView, Kind, Part, ReadFault, is_balanced, is_clean_trail, is_key, is_name,
-    is_type, read, read_value, same_folded,
+    is_type, read, read_value,
 };
+use bib_text::same_folded;
 use std::alloc::Global;
 use std::test::Fail;
 

@@ -6,4 +6,4 @@
 mod tokens;
 
 pub use bib_items::Sought;
-pub use tokens::{First, Token, first_with, is_met_before, push_from};
+pub use tokens::{First, Token, first_with, has_part, is_met_before, push_from};

@@ -244,6 +244,19 @@ fn look_at<L: ItemList>(
     })
 }
 
+/// Whether a part of item `n` is watched for.
+pub fn has_part<L: ItemList>(
+    alloc: Global,
+    db: &Database<L>,
+    n: usize,
+    watched: Sought<'_>,
+) -> Result<bool, AllocError>
+    requires { IsItemNumber db.now n }
+    ensures { IfOk result (λ has. OfReading db.now (λ r. (i : Item) → slice_get r.items n ≡ Some i → has ≡ any_part (test_of watched.entry) i.tree)) }
+{
+    Ok(look_at(alloc, db, n, Sought::Nothing, watched)?.watched)
+}
+
 /// Whether a part of an item before item `n` is watched for. It passes over items as `push_from` does.
 pub fn is_met_before<L: ItemList>(
     alloc: Global,

@@ -10,9 +10,9 @@ ghost use Rattle.bib_definitions.specs.Definitions.{is_definition_of, definition
 ghost use Rattle.bib_store.specs.Readings.{OfReading};
 ghost use Rattle.bib_uses.specs.Seen.{numbers_of, AreDefined};
 
-use bib_scan::{ItemView, Kind, NAME_LIMIT};
+use bib_scan::{ItemView, Kind};
 use bib_store::{Database, ItemList};
-use bib_text::Seq;
+use bib_text::{NAME_LIMIT, Seq};
 use folded_map::FoldedMap;
 use std::alloc::{AllocError, Global};
 

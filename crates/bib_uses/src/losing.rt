@@ -15,9 +15,9 @@ ghost use Rattle.bib_uses.specs.Seen.{use_seen, AreDefined, IsSourceOf, AreTold}
 use crate::defined::{Defined, defined_before, defined_in};
 use crate::sources::{Source, defined_on, item_named, source_of};
 use crate::uses::{UseView, uses_of};
-use bib_scan::{ItemView, Kind, NAME_LIMIT};
+use bib_scan::{ItemView, Kind};
 use bib_store::{Database, ItemList};
-use bib_text::{Seq, Text, copied};
+use bib_text::{NAME_LIMIT, Seq, Text, copied};
 use folded_map::FoldedMap;
 use std::alloc::{AllocError, Global};
 

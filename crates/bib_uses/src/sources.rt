@@ -17,8 +17,9 @@ ghost use Rattle.bib_uses.specs.Seen.{use_seen, AreDefined, IsSource, IsSourceOf
 use crate::defined::{Defined, defined_before};
 use crate::uses::UseView;
 use bib_sayings::FieldTable;
-use bib_scan::{FieldView, Fields, NAME_LIMIT};
+use bib_scan::{FieldView, Fields};
 use bib_store::{Database, ItemList};
+use bib_text::NAME_LIMIT;
 use folded_map::FoldedMap;
 use std::alloc::{AllocError, Global};
 

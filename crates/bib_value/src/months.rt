@@ -6,7 +6,7 @@ ghost use Rattle.bib_spec.specs.Text.{folded};
 ghost use Rattle.bib_spec.specs.Texts.{months};
 ghost use Rattle.bib_value.specs.Months.{shown, text_in};
 
-use bib_scan::same_folded;
+use bib_text::same_folded;
 
 /// The twelve months, with their texts. (btxdoc 2.2; their texts as in the style `plain`)
 const MONTHS: [(&[u8], &[u8]); 12] = [

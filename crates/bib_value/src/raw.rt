@@ -12,7 +12,8 @@ ghost use Rattle.bib_value.specs.declared.fault.ValueFault.TheVariants.{TextTooL
 
 use crate::fault::ValueFault;
 use crate::table::MacroTable;
-use bib_scan::{Part, Parts, Seq, Text, same_folded};
+use bib_scan::{Part, Parts};
+use bib_text::{Seq, Text, same_folded};
 use std::alloc::Global;
 
 /// The longest raw text, in bytes. (dialect)

@@ -7,7 +7,7 @@ ghost use Rattle.bib_value.specs.Spacing.{can_go_on, neat};
 ghost use Rattle.bib_value.specs.declared.fault.ValueFault.TheVariants.{Memory};
 
 use crate::fault::ValueFault;
-use bib_scan::{Seq, Text, copied};
+use bib_text::{Seq, Text, copied};
 use std::alloc::Global;
 
 /// Whether the byte is white space.

@@ -9,7 +9,7 @@ ghost use Rattle.bib_value.specs.declared.fault.ValueFault.TheVariants.{Memory};
 
 use crate::fault::ValueFault;
 use crate::months::month;
-use bib_scan::{Text, copied};
+use bib_text::{Text, copied};
 use folded_map::FoldedMap;
 use std::alloc::Global;
 use std::marker::Model;

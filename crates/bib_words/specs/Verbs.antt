@@ -154,7 +154,9 @@ abbrev pub takes_bibtex : Verb → Bool
 takes_bibtex (Asks Show) = true
 takes_bibtex (Asks Cite) = true
 takes_bibtex (Asks Json) = true
+takes_bibtex (Asks Labels) = true
 takes_bibtex (Asks Ris) = true
+takes_bibtex Names = true
 takes_bibtex _ = false
 
 -- the commands that read other files too, before and after their own

@@ -248,8 +248,9 @@ impl Verb {
         match self {
             Verb::Asks(question) => matches!(
                 question,
-                Question::Show | Question::Cite | Question::Json | Question::Ris
+                Question::Show | Question::Cite | Question::Labels | Question::Json | Question::Ris
             ),
+            Verb::Names => true,
             _ => false,
         }
     }

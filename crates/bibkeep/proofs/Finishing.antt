@@ -1,5 +1,5 @@
 -- How the program ends.
-use Rattle.std.proofs.Common.{◌≡◌, ℕ, List, Bool, true, false, Option, Some, None, option_map, refl, sym, ◌∙◌, ap₂, subst, if◌then◌else◌}
+use Rattle.std.proofs.Common.{◌≡◌, ℕ, List, Bool, true, false, Option, Some, None, option_map, refl, ap₂, subst, if◌then◌else◌}
 use Rattle.bib_spec.specs.Text.{Text}
 use Rattle.bib_words.specs.declared.commands.Command.{Command}
 use Rattle.bib_answers.specs.declared.answers.Outcome.{Outcome}
@@ -12,7 +12,7 @@ use Rattle.bib_run.specs.declared.reading.Sources.{Sources}
 use Rattle.bib_run.specs.Runs.{IsRunOver}
 use Rattle.bibkeep.specs.Together.{RanTogether, RanBetween, all_names}
 use Rattle.bibkeep.specs.Merging.{RanMerge}
-use Rattle.bibkeep.specs.Ending.{RanHere, IsFinished, EndsFor, leaves_some}
+use Rattle.bibkeep.specs.Ending.{RanHere, IsFinished, leaves_some}
 
 -- a tap that was not called yet
 pub new_tap : (bytes told : Option Text) (failed : Bool) → bytes ≡ told → failed ≡ false → ◌≡◌ {A = TapView} (record { bytes = bytes; failed = failed }) (fresh told)
@@ -33,14 +33,6 @@ ran_over command file journal a b c d now outcome ran is_file is_journal is_inpu
       (subst (λ (t : Option TapView). IsRun command (taps (fresh file) t c d) now outcome) is_journal
       (subst (λ (t : TapView). IsRun command (taps t b c d) now outcome) is_file ran)));
 }
-
--- a run that is finished ends as the command does
-pub ends_so : (command : Command) (paths : Option Paths) (file : Option Text) (journal : Option (Option Text)) (outcome : Outcome) (status : ℕ) (old new : Option Files)
-    → RanHere command file journal outcome → IsFinished paths outcome status old new → EndsFor command status
-ends_so command paths file journal outcome status old new ran (IsFinished.stored at place is told) = EndsFor.ran file journal outcome ran is
-ends_so command paths file journal outcome status old new ran (IsFinished.nothing none is same) = EndsFor.ran file journal outcome ran is
-ends_so command paths file journal outcome status old new ran (IsFinished.unstored at place some is told) = EndsFor.fault is
-ends_so command paths file journal outcome status old new ran (IsFinished.no_place none some is same) = EndsFor.fault is
 
 -- all that the outcome leaves is in place, if the bytes that were stored are those that it leaves
 pub stored_so : (paths : Option Paths) (at : Paths) (outcome : Outcome) (status : ℕ) (file journal : Option Text) (old new : Option Files)
@@ -72,14 +64,7 @@ pub ran_merge : (command : Command) (base ours theirs : Text) (out now : TapView
     → IsMergeRun command base ours theirs out now outcome → RanMerge command base ours theirs outcome
 ran_merge command base ours theirs out now outcome new ran = record { now = now; ran = subst (λ (t : TapView). IsMergeRun command base ours theirs t now outcome) new ran }
 
--- a merge that is finished ends as the command does
-pub merges_so : (command : Command) (paths : Option Paths) (base ours theirs : Text) (outcome : Outcome) (status : ℕ) (old new : Option Files)
-    → RanMerge command base ours theirs outcome → IsFinished paths outcome status old new → EndsFor command status
-merges_so command paths base ours theirs outcome status old new ran (IsFinished.stored at place is told) = EndsFor.merged base ours theirs outcome ran is
-merges_so command paths base ours theirs outcome status old new ran (IsFinished.nothing none is same) = EndsFor.merged base ours theirs outcome ran is
-merges_so command paths base ours theirs outcome status old new ran (IsFinished.unstored at place some is told) = EndsFor.fault is
-merges_so command paths base ours theirs outcome status old new ran (IsFinished.no_place none some is same) = EndsFor.fault is
-
 -- a run over files that were read, with a tap over standard output that was not called yet
-pub ran_between : (command : Command) (sources : Sources) (out now : TapView) (outcome : Outcome) → out ≡ fresh None → IsRunOver command sources out now outcome → RanBetween command outcome
-ran_between command sources out now outcome new ran = record { sources = sources; now = now; ran = subst (λ (t : TapView). IsRunOver command sources t now outcome) new ran }
+pub ran_between : (command : Command) (sources : Sources) (out now : TapView) (outcome : Outcome) → out ≡ fresh None → IsRunOver command sources out now outcome
+    → RanBetween command sources outcome
+ran_between command sources out now outcome new ran = record { now = now; ran = subst (λ (t : TapView). IsRunOver command sources t now outcome) new ran }

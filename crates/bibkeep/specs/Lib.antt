@@ -1,5 +1,6 @@
 pub mod Merging
-pub mod Ending
+pub mod Causes
 pub mod Opening
-pub mod Citing
 pub mod Together
+pub mod Ending
+pub mod Citing

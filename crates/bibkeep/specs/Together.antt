@@ -1,5 +1,5 @@
 -- How a command is run over several files, and over two.
-use Rattle.std.specs.Prelude.{List, ◌++◌, take, None}
+use Rattle.std.specs.Prelude.{ℕ, ◌≡◌, List, ◌++◌, take, None}
 use Rattle.bib_spec.specs.Text.{Text}
 use Rattle.bib_words.specs.declared.commands.Command.{Command}
 use Rattle.bib_answers.specs.declared.answers.Outcome.{Outcome}
@@ -18,9 +18,20 @@ pub record RanTogether (command : Command) (outcome : Outcome) : Type 0 where
   pub now : TapView
   pub ran : IsShelfRun command (all_names command) texts (fresh None) now outcome
 
--- A run of the command over an old file, as its file, and a new one, as its input, and over standard output, which tells nothing. What
--- the files hold is not told.
-pub record RanBetween (command : Command) (outcome : Outcome) : Type 0 where
-  pub sources : Sources
+-- the command was run over all its files, and this is the status of the run
+pub record EndsTogether (command : Command) (status : ℕ) : Type 0 where
+  pub outcome : Outcome
+  pub ran : RanTogether command outcome
+  pub is : status ≡ outcome.status
+
+-- A run of the command over an old file, as its file, and a new one, as its input, which were read, and over standard output, which
+-- tells nothing.
+pub record RanBetween (command : Command) (sources : Sources) (outcome : Outcome) : Type 0 where
   pub now : TapView
   pub ran : IsRunOver command sources (fresh None) now outcome
+
+-- the command was run over the two files, and this is the status of the run
+pub record EndsBetween (command : Command) (sources : Sources) (status : ℕ) : Type 0 where
+  pub outcome : Outcome
+  pub ran : RanBetween command sources outcome
+  pub is : status ≡ outcome.status

@@ -3,6 +3,7 @@
 ghost use Rattle.std.specs.Prelude.{◌≡◌, ◌≢◌, ◌⊎◌, true, false, codes};
 ghost use Rattle.bib_taps.specs.Taps.{tap_inner, has_failed};
 ghost use Rattle.bib_run.specs.Transfers.{Tells};
+ghost use Rattle.bibkeep.specs.Causes.{IsErrorStatus};
 
 use bib_command::Usage;
 use bib_run::{Outcome, READ_FAULT, Tap, WRITE_FAULT, write_whole};
@@ -53,7 +54,7 @@ pub fn end_without_words<E: Write>(errors: &mut Tap<E>, error: &io::Error) -> u8
 
 /// The file or its journal could not be opened.
 pub fn end_unopened<E: Write>(errors: &mut Tap<E>, error: &io::Error) -> u8
-    ensures status { (result ≡ 3) ⊎ (result ≡ 4) }
+    ensures status { IsErrorStatus error.now result }
     ensures told { result ≡ 3 → Tells (E.contents (tap_inner errors.old)) (E.contents (tap_inner errors.new)) (codes "bibkeep: read fault\n") (has_failed errors.new) }
 {
     if error.kind() == ErrorKind::OutOfMemory {

@@ -2,17 +2,19 @@
 //! decided here: `bib_command` reads the words, and `bib_run` knows what a command does.
 #![tactic(auto)]
 
-ghost use Rattle.std.specs.Prelude.{◌≡◌, ◌⊎◌, true, false, List, option_map};
+ghost use Rattle.std.specs.Prelude.{◌≡◌, true, false, List, None, option_map, codes, IfOk, MatchResult};
 ghost use Rattle.std.specs.Option.{option_copied};
 ghost use Rattle.bib_spec.specs.Text.{Text as FileText};
 ghost use Rattle.bib_words.specs.Command.{IsCommand, has_others};
 ghost use Rattle.bib_taps.specs.Taps.{tap_inner, has_failed};
 ghost use Rattle.bib_streams.specs.Heard.{heard_inner, kept_inner};
 ghost use Rattle.bib_run.specs.Runs.{fresh, view_of};
-ghost use Rattle.bibkeep.specs.Ending.{RanHere, RanAndFinished, RanAlone, EndsFor};
+ghost use Rattle.bibkeep.specs.Causes.{fault_status, aux_status};
+ghost use Rattle.bibkeep.specs.Opening.{told_by};
+ghost use Rattle.bibkeep.specs.Ending.{RanHere, RanAndFinished, RanAlone, HasRun, EndsWith, EndsMerged, IsOverFile, EndsFor};
 ghost use Rattle.bib_shelf.specs.Joined.{AreJoined};
 ghost use Rattle.bibkeep.specs.Citing.{EndsCiting};
-ghost use Rattle.bibkeep.specs.Together.{all_names, RanTogether, RanBetween};
+ghost use Rattle.bibkeep.specs.Together.{all_names, RanTogether, EndsTogether, RanBetween, EndsBetween};
 
 mod aux_files;
 mod disk;
@@ -36,7 +38,7 @@ use endings::{
     end_without_words, errors, output,
 };
 use merging::{Three, merge_files, three_files};
-use opening::{Journal, Opened, expect_room, open, stores};
+use opening::{Journal, Opened, expect_room, open};
 use other_files::{FileFault, all_names, joined_files, two_files};
 use saying::{
     Ran, Streams, invite, is_closed_by, may_hint, say_hints, say_trouble, say_unstored, say_usage,
@@ -46,7 +48,7 @@ use std::alloc::Global;
 use std::fs::File;
 use std::io::Read;
 use std::process::ExitCode;
-use std::{env, str};
+use std::{env, io, str};
 use storing::finish;
 
 fn main(rt: HostRuntime) -> ExitCode {
@@ -104,7 +106,7 @@ fn end_without_aux(
     hints: bool,
     fault: AuxFault,
 ) -> u8
-    ensures { EndsCiting command.now result }
+    ensures { result ≡ aux_status fault }
 {
     match fault {
         AuxFault::File(fault) => end_unheard(rt, alloc, command, hints, &fault),
@@ -120,7 +122,7 @@ fn end_unheard(
     hints: bool,
     fault: &FileFault,
 ) -> u8
-    ensures { (result ≡ 3) ⊎ (result ≡ 4) }
+    ensures { result ≡ fault_status fault.now }
 {
     match fault {
         FileFault::Memory => end_without_memory(&mut errors(rt)),
@@ -142,9 +144,9 @@ fn perform_known(rt: &HostRuntime, alloc: Global, command: &Command, hints: bool
     end_unknown(&mut errors(rt))
 }
 
-/// Runs the command over the file that it names and its journal, or over standard input if it names no file; `explain`
-/// reads neither; `diff` is run over the two files that it names, and `merge` over three; or it is run over several files, if it names
-/// others. What is new is put in its place. With `hints`, hints follow a message.
+/// Runs the command over what it names. `explain` reads nothing; `diff` is run over the two files that it names, and `merge`
+/// over three; or it is run over several files, if it names others. What is new is put in its place. With `hints`, hints follow a
+/// message.
 fn perform(rt: &HostRuntime, alloc: Global, command: &Command, hints: bool) -> u8
     requires { IsCommand command.now }
     ensures { EndsFor command.now result }
@@ -161,17 +163,45 @@ fn perform(rt: &HostRuntime, alloc: Global, command: &Command, hints: bool) -> u
     if command.is_named(b"diff") {
         return run_between(rt, alloc, command, hints);
     }
+    run_over_file(rt, alloc, command, hints)
+}
+
+/// Runs the command over the file that it names and its journal, or over standard input if it names no file.
+fn run_over_file(rt: &HostRuntime, alloc: Global, command: &Command, hints: bool) -> u8
+    requires known { IsCommand command.now }
+    requires over { IsOverFile command.now }
+    ensures { EndsFor command.now result }
+{
     let Some(path) = command.words.as_slice().first() else {
         return run_alone(rt, alloc, command, hints, rt.stdin());
     };
     let Ok(path) = str::from_utf8(path.as_slice()) else {
         return end_unknown(&mut errors(rt));
     };
-    match open(rt, alloc, command, path) {
-        Ok(opened) => run_opened(rt, alloc, command, hints, &opened),
+    let opened = open(rt, alloc, command, path);
+    answer_opened(rt, alloc, command, hints, path.as_bytes(), opened)
+}
+
+/// Runs the command over the file that was opened and its journal, or says that they could not be opened.
+fn answer_opened(
+    rt: &HostRuntime,
+    alloc: Global,
+    command: &Command,
+    hints: bool,
+    path: &[u8],
+    opened: io::Result<Opened>,
+) -> u8
+    requires { IsCommand command.now }
+    ensures { EndsWith command.now opened result }
+{
+    match opened {
+        Ok(opened) => {
+            let room = expect_room(rt, command, &opened);
+            run_opened(rt, alloc, command, hints, &opened, room)
+        }
         Err(error) => {
             let status = end_unopened(&mut errors(rt), &error);
-            say_trouble(rt, alloc, command, hints, path.as_bytes(), error.kind());
+            say_trouble(rt, alloc, command, hints, path, error.kind());
             status
         }
     }
@@ -186,8 +216,27 @@ fn run_together(rt: &HostRuntime, alloc: Global, command: &Command, hints: bool)
     let Ok(names) = all_names(alloc, command) else {
         return end_without_memory(&mut errors(rt));
     };
-    match joined_files(rt, alloc, names.as_slice()) {
-        Ok(files) => run_joined(rt, alloc, command, names.as_slice(), files),
+    let files = joined_files(rt, alloc, names.as_slice());
+    answer_joined(rt, alloc, command, hints, names.as_slice(), files)
+}
+
+/// Runs the command over the files that were read, which have these names, or says which could not be read.
+fn answer_joined(
+    rt: &HostRuntime,
+    alloc: Global,
+    command: &Command,
+    hints: bool,
+    names: &[Text],
+    files: Result<Joined, FileFault>,
+) -> u8
+    requires known { IsCommand command.now }
+    requires others { has_others command.now ≡ true }
+    requires names { names.now ≡ all_names command.now }
+    requires joined { IfOk files (λ joined. (texts : List FileText) × AreJoined texts joined) }
+    ensures { MatchResult files (λ joined. EndsTogether command.now result) (λ why. result ≡ fault_status why) }
+{
+    match files {
+        Ok(files) => run_joined(rt, alloc, command, names, files),
         Err(fault) => end_unheard(rt, alloc, command, hints, &fault),
     }
 }
@@ -204,7 +253,7 @@ fn run_joined(
     requires others { has_others command.now ≡ true }
     requires names { names.now ≡ all_names command.now }
     requires joined { (texts : List FileText) × AreJoined texts files }
-    ensures { EndsFor command.now result }
+    ensures { EndsTogether command.now result }
 {
     let (outcome, is_closed) = outcome_of_joined(rt, alloc, command, names, files);
     end_run(&mut errors(rt), &outcome, is_closed)
@@ -234,13 +283,27 @@ fn outcome_of_joined(
 
 /// Merges the three files that the command names, and puts the merged file in the place of ours.
 fn run_merging(rt: &HostRuntime, alloc: Global, command: &Command, hints: bool) -> u8
+    requires known { IsCommand command.now }
+    requires alone { has_others command.now ≡ false }
+    requires named { command.now.name ≡ codes "merge" }
     ensures { EndsFor command.now result }
 {
-    let [base, ours, theirs] = command.words.as_slice() else {
-        return end_unknown(&mut errors(rt));
-    };
-    let names = [base.as_slice(), ours.as_slice(), theirs.as_slice()];
-    match three_files(rt, alloc, names, !command.print) {
+    let names = [command.word(0), command.word(1), command.word(2)];
+    let files = three_files(rt, alloc, names, !command.print);
+    answer_three(rt, alloc, command, hints, files)
+}
+
+/// Merges the three files that were read, and puts the merged file in the place of ours; or says which could not be read.
+fn answer_three(
+    rt: &HostRuntime,
+    alloc: Global,
+    command: &Command,
+    hints: bool,
+    files: Result<Three, FileFault>,
+) -> u8
+    ensures { MatchResult files (λ three. EndsMerged command.now three result) (λ why. result ≡ fault_status why) }
+{
+    match files {
         Ok(files) => merge_three(rt, alloc, command, hints, &files),
         Err(fault) => end_unheard(rt, alloc, command, hints, &fault),
     }
@@ -248,7 +311,7 @@ fn run_merging(rt: &HostRuntime, alloc: Global, command: &Command, hints: bool) 
 
 /// Merges these three files, and puts the merged file in the place of ours.
 fn merge_three(rt: &HostRuntime, alloc: Global, command: &Command, hints: bool, files: &Three) -> u8
-    ensures { EndsFor command.now result }
+    ensures { EndsMerged command.now files.now result }
 {
     let mut disk = Disk {
         rt,
@@ -270,13 +333,27 @@ fn merge_three(rt: &HostRuntime, alloc: Global, command: &Command, hints: bool, 
 
 /// Runs the command over the two files that it names, and says how it ended.
 fn run_between(rt: &HostRuntime, alloc: Global, command: &Command, hints: bool) -> u8
-    requires { IsCommand command.now }
+    requires known { IsCommand command.now }
+    requires alone { has_others command.now ≡ false }
+    requires named { command.now.name ≡ codes "diff" }
     ensures { EndsFor command.now result }
 {
-    let [old, new] = command.words.as_slice() else {
-        return end_unknown(&mut errors(rt));
-    };
-    match two_files(rt, alloc, old.as_slice(), new.as_slice()) {
+    let sources = two_files(rt, alloc, command.word(0), command.word(1));
+    answer_between(rt, alloc, command, hints, sources)
+}
+
+/// Runs the command over the two files that were read, or says which could not be read.
+fn answer_between(
+    rt: &HostRuntime,
+    alloc: Global,
+    command: &Command,
+    hints: bool,
+    sources: Result<Sources, FileFault>,
+) -> u8
+    requires { IsCommand command.now }
+    ensures { MatchResult sources (λ read. EndsBetween command.now read result) (λ why. result ≡ fault_status why) }
+{
+    match sources {
         Ok(sources) => run_sources(rt, alloc, command, sources),
         Err(fault) => end_unheard(rt, alloc, command, hints, &fault),
     }
@@ -285,7 +362,7 @@ fn run_between(rt: &HostRuntime, alloc: Global, command: &Command, hints: bool) 
 /// Runs the command over files that were read, and says how it ended.
 fn run_sources(rt: &HostRuntime, alloc: Global, command: &Command, sources: Sources) -> u8
     requires { IsCommand command.now }
-    ensures { EndsFor command.now result }
+    ensures { EndsBetween command.now sources result }
 {
     let (outcome, is_closed) = outcome_of_sources(rt, alloc, command, sources);
     end_run(&mut errors(rt), &outcome, is_closed)
@@ -299,7 +376,7 @@ fn outcome_of_sources(
     sources: Sources,
 ) -> (Outcome, bool)
     requires { IsCommand command.now }
-    ensures { RanBetween command.now result.0 }
+    ensures { RanBetween command.now sources result.0 }
 {
     let mut out = output(rt, false);
     let outcome = run_read(alloc, command, sources, &mut out);
@@ -320,8 +397,7 @@ fn run_alone<F: Read>(
 where
     F: Drop,
     requires { IsCommand command.now }
-    ensures ran { RanAlone command.now (F.remaining source) result }
-    ensures ends { EndsFor command.now result }
+    ensures { RanAlone command.now (F.remaining source) result }
 {
     let ran = run_over(rt, alloc, command, hints, source, None::<File>);
     let status = end_run(&mut errors(rt), &ran.outcome, ran.streams.is_closed());
@@ -329,62 +405,62 @@ where
     status
 }
 
-/// Runs the command over its file and its journal, unless it stores a journal for which there is no room. A link in the
-/// place of the journal is read as an empty text, which is no journal.
+/// Runs the command over its file and its journal, unless there is no room for the journal that it stores.
 fn run_opened(
     rt: &HostRuntime,
     alloc: Global,
     command: &Command,
     hints: bool,
     opened: &Opened,
+    room: io::Result<()>,
 ) -> u8
     requires { IsCommand command.now }
-    ensures { EndsFor command.now result }
+    ensures { MatchResult room (λ _. HasRun command.now opened.now result) (λ error. result ≡ 3) }
+{
+    match room {
+        Ok(()) => {
+            let mut disk = Disk {
+                rt,
+                file: &opened.file,
+                first: None,
+            };
+            run_in(rt, alloc, command, hints, &mut disk, opened)
+        }
+        Err(error) => {
+            let status = end(&mut errors(rt), WRITE_FAULT, status::FAULT);
+            say_unstored(rt, alloc, command, hints, Some(error));
+            status
+        }
+    }
+}
+
+/// Runs the command over its file and its journal, and puts what is new in its place in the folder. A link in the place of
+/// the journal is read as an empty text, which is no journal.
+fn run_in<D: Folder>(
+    rt: &HostRuntime,
+    alloc: Global,
+    command: &Command,
+    hints: bool,
+    folder: &mut D,
+    opened: &Opened,
+) -> u8
+    requires { IsCommand command.now }
+    ensures { RanAndFinished command.now opened.now.paths None (told_by opened.now.journal) result (D.files folder.old) (D.files folder.new) }
 {
     let file = &opened.file;
     let paths = opened.paths.as_ref();
-    if let Some(paths) = paths
-        && stores(command)
-        && !command.no_journal
-        && let Err(error) = expect_room(rt, file, paths)
-    {
-        let status = end(&mut errors(rt), WRITE_FAULT, status::FAULT);
-        say_unstored(rt, alloc, command, hints, Some(error));
-        return status;
-    }
-    let mut disk = Disk {
-        rt,
-        file,
-        first: None,
-    };
     match &opened.journal {
         Journal::Found(journal) => {
-            run_stored(
-                rt,
-                alloc,
-                command,
-                hints,
-                &mut disk,
-                paths,
-                file,
-                Some(journal),
-            )
+            let journal = Some(journal);
+            run_stored(rt, alloc, command, hints, folder, paths, file, journal)
         }
         Journal::Link => {
             let damaged = Some(b"".as_slice());
-            run_stored(rt, alloc, command, hints, &mut disk, paths, file, damaged)
+            run_stored(rt, alloc, command, hints, folder, paths, file, damaged)
         }
         Journal::Missing => {
-            run_stored(
-                rt,
-                alloc,
-                command,
-                hints,
-                &mut disk,
-                paths,
-                file,
-                None::<&File>,
-            )
+            let none = None::<&File>;
+            run_stored(rt, alloc, command, hints, folder, paths, file, none)
         }
     }
 }
@@ -404,8 +480,7 @@ where
     F: Drop,
     J: Drop,
     requires { IsCommand command.now }
-    ensures ends { EndsFor command.now result }
-    ensures finished { RanAndFinished command.now (option_copied paths.entry) (F.remaining file) (option_map J.remaining journal) result (D.files folder.old) (D.files folder.new) }
+    ensures { RanAndFinished command.now (option_copied paths.entry) (F.remaining file) (option_map J.remaining journal) result (D.files folder.old) (D.files folder.new) }
 {
     let ran = run_over(rt, alloc, command, hints, file, journal);
     let is_closed = ran.streams.is_closed();

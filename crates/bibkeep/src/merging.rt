@@ -5,11 +5,11 @@ ghost use Rattle.std.specs.Option.{option_copied};
 ghost use Rattle.bib_words.specs.Command.{IsCommand};
 ghost use Rattle.bib_files.specs.Folders.{Files};
 ghost use Rattle.bibkeep.specs.Merging.{RanMerge};
-ghost use Rattle.bibkeep.specs.Ending.{EndsFor, MergedAndFinished};
+ghost use Rattle.bibkeep.specs.Ending.{MergedAndFinished};
 
 use crate::endings::{errors, output};
 use crate::opening::{Place, open_place};
-use crate::other_files::{FileFault, READ_LIMIT, text_at, text_of, unread};
+use crate::other_files::{FileFault, READ_LIMIT, text_named, text_of, unread};
 use crate::saying::{is_closed_by, say_unstored};
 use crate::storing::finish;
 use bib_files::{Folder, Paths};
@@ -23,9 +23,9 @@ use std::{io, str};
 /// What the three files of a merge hold, and the place of ours.
 #[derive(Drop)]
 pub struct Three {
-    pub base: Vec<u8>,
-    pub ours: Vec<u8>,
-    pub theirs: Vec<u8>,
+    pub base: Text,
+    pub ours: Text,
+    pub theirs: Text,
     pub place: Place,
 }
 
@@ -41,7 +41,7 @@ pub fn three_files(
     let base = text_named(rt, alloc, base)?;
     let place = place_named(rt, alloc, ours, stores)?;
     let ours = match text_of(alloc, &place.file, READ_LIMIT) {
-        Ok(text) => text,
+        Ok(text) => Text::from_vec(text),
         Err(error) => return Err(unread(alloc, ours, error.kind())),
     };
     let theirs = text_named(rt, alloc, theirs)?;
@@ -70,18 +70,6 @@ fn place_named(
     }
 }
 
-/// The bytes of the file with this name, up to one byte past the limit.
-fn text_named(rt: &HostRuntime, alloc: Global, name: &[u8]) -> Result<Vec<u8>, FileFault> {
-    let read = match str::from_utf8(name) {
-        Ok(path) => text_at(rt, alloc, path, READ_LIMIT),
-        Err(_) => Err(io::ErrorKind::InvalidFilename.into()),
-    };
-    match read {
-        Ok(text) => Ok(text),
-        Err(error) => Err(unread(alloc, name, error.kind())),
-    }
-}
-
 /// Merges three files with these bytes, says how it ended, and puts the merged file in the place of ours.
 pub fn merge_files<D: Folder>(
     rt: &HostRuntime,
@@ -94,8 +82,7 @@ pub fn merge_files<D: Folder>(
     ours: &[u8],
     theirs: &[u8],
 ) -> u8
-    ensures ends { EndsFor command.now result }
-    ensures finished { MergedAndFinished command.now (option_copied paths.entry) base.now ours.now theirs.now result (D.files folder.old) (D.files folder.new) }
+    ensures { MergedAndFinished command.now (option_copied paths.entry) base.now ours.now theirs.now result (D.files folder.old) (D.files folder.new) }
 {
     let (outcome, is_closed) = outcome_of_merge(rt, alloc, command, base, ours, theirs);
     let finished = finish(folder, &mut errors(rt), paths, &outcome, is_closed);

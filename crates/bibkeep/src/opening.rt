@@ -1,9 +1,9 @@
 //! Opens what a command reads: its file, which is locked if the command stores it, and the journal beside it.
 
-ghost use Rattle.std.specs.Prelude.{◌≡◌, ◌≢◌, ◌↔◌, Some, IfOk, IsTrue, pos, slice_get};
+ghost use Rattle.std.specs.Prelude.{◌≡◌, ◌≢◌, ◌↔◌, Some, IfOk, OnErr, IsSome, IsTrue, pos, slice_get};
 ghost use Rattle.std.specs.Fd.{file_raw_fd};
 ghost use Rattle.bib_words.specs.Command.{TakesInput};
-ghost use Rattle.bibkeep.specs.Opening.{Stores};
+ghost use Rattle.bibkeep.specs.Opening.{Stores, StoresJournal};
 
 use crate::disk::{found, is_same, kind_of};
 use bib_files::{Kind, Paths};
@@ -44,7 +44,7 @@ pub struct Opened {
 }
 
 /// Whether the command puts something in place.
-pub fn stores(command: &Command) -> bool
+fn stores(command: &Command) -> bool
     ensures { IsTrue result ↔ Stores command.now }
 {
     (command.makes_file() && !command.print) || command.is_named(b"forget")
@@ -143,9 +143,26 @@ fn open_journal(rt: &HostRuntime, path: &str) -> io::Result<Journal> {
     Err(ErrorKind::ResourceBusy.into())
 }
 
+/// Fails if the command stores a journal for which there is no room.
+pub fn expect_room(rt: &HostRuntime, command: &Command, opened: &Opened) -> io::Result<()>
+    ensures { OnErr result (StoresJournal command.now × IsSome opened.now.paths) }
+{
+    match &opened.paths {
+        Some(paths) if stores_journal(command) => expect_places(rt, &opened.file, paths),
+        _ => Ok(()),
+    }
+}
+
+/// Whether the command puts a journal in place.
+fn stores_journal(command: &Command) -> bool
+    ensures { IsTrue result ↔ StoresJournal command.now }
+{
+    stores(command) && !command.no_journal
+}
+
 /// Fails if nothing could be stored at the paths: the longest is no path that a file may have; or in the place of the
 /// journal is a folder, a device, a pipe or a socket, or the file itself under a second name.
-pub fn expect_room(rt: &HostRuntime, file: &File, paths: &Paths) -> io::Result<()> {
+fn expect_places(rt: &HostRuntime, file: &File, paths: &Paths) -> io::Result<()> {
     found(fs::symlink_metadata(rt, paths.new_journal()))?;
     let Some(journal) = found(fs::symlink_metadata(rt, paths.journal()))? else {
         return Ok(());

@@ -91,12 +91,12 @@ pub fn two_files(
 }
 
 /// The bytes of the file with this name, up to one byte past the limit.
-fn text_named(rt: &HostRuntime, alloc: Global, name: &[u8]) -> Result<Text, FileFault> {
+pub fn text_named(rt: &HostRuntime, alloc: Global, name: &[u8]) -> Result<Text, FileFault> {
     let Ok(path) = str::from_utf8(name) else {
         return Err(unread(alloc, name, ErrorKind::InvalidFilename));
     };
     match text_at(rt, alloc, path, READ_LIMIT) {
-        Ok(text) => Ok(Seq::from_vec(text)),
+        Ok(text) => Ok(Text::from_vec(text)),
         Err(error) => Err(unread(alloc, name, error.kind())),
     }
 }

@@ -51,10 +51,13 @@ pub fn finish<D: Folder, E: Write>(
             status,
             unstored: None,
         },
-        Err(error) => Finished {
-            status: end(errors, WRITE_FAULT, status::FAULT),
-            unstored: Some(error),
-        },
+        Err(error) => {
+            let status = end(errors, WRITE_FAULT, status::FAULT);
+            Finished {
+                status,
+                unstored: Some(error),
+            }
+        }
     }
 }
 

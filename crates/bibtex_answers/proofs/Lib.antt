@@ -1,5 +1,7 @@
 pub mod ListedRecords
 pub mod ListAnswers
+pub mod NameAnswers
 pub mod UnknownKeys
 pub mod JsonLines
+pub mod LabelLines
 pub mod Refusals

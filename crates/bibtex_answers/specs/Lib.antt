@@ -4,5 +4,7 @@ pub mod Opened
 pub mod Entries
 pub mod Listed
 pub mod Show
+pub mod Names
+pub mod Labels
 pub mod Cite
 pub mod Records

@@ -5,7 +5,7 @@ ghost use Rattle.bib_answers.specs.Outcome.{answer_of};
 ghost use Rattle.bibtex_answers.specs.Messages.{not_plain_line, too_deep_line};
 
 use bib_answers::{Answer, placed_line, refused};
-use bib_scan::copied;
+use bib_text::copied;
 use std::alloc::{AllocError, Global};
 
 /// The answer whose message says that the file is not plain, because of the at-sign at this place.

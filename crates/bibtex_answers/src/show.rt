@@ -15,8 +15,8 @@ use crate::messages::too_deep;
 use crate::opening::answer_file;
 use bib_answers::{Answer, done, no_such_entry};
 use bib_data::Record;
-use bib_scan::{Text, copied};
 use bib_store::{Database, Paged};
+use bib_text::{Text, copied};
 use bibtex_lists::{BibtexEntry, BibtexFault, listed_as_bibtex, record_as_bibtex};
 use std::alloc::{AllocError, Global};
 

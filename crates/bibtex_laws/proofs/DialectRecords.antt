@@ -49,10 +49,27 @@ module _ (entries : List EntryTexts) where
       ∙ sym (ap (λ (o : Option ℕ). with_inherited entries own (option_map_or (λ k. k ∷ lineage (parent entries) (length ms) k) o [])) some))
       (cases_Bool (m == n))
 
-key_get : (entries : List EntryTexts) (m : ℕ) (entry : EntryTexts) → slice_get entries m ≡ Some entry → slice_get (keys_of entries) m ≡ Some entry.key
+pub key_get : (entries : List EntryTexts) (m : ℕ) (entry : EntryTexts) → slice_get entries m ≡ Some entry → slice_get (keys_of entries) m ≡ Some entry.key
 key_get [] m entry at = absurd (none-some entry at)
 key_get (first ∷ entries) zero entry at = ap (λ (o : Option EntryTexts). option_map (λ e. e.key) o) at
 key_get (first ∷ entries) (suc m) entry at = key_get entries m entry at
+
+-- the text names the only entry with the key
+pub only_named : (entries : List EntryTexts) → AllDiffer (keys_of entries) → (text : Text) (m : ℕ) (entry : EntryTexts) → slice_get entries m ≡ Some entry → same text entry.key ≡ true → (text ≡ [] → entry.key ≢ []) → entry_named entries text ≡ Some m
+only_named entries differ text m entry at is apart = first_from text (keys_of entries) m (record {
+  key = entry.key;
+  stands = key_get entries m entry at;
+  named = ⊎_elim (λ yes_. yes_) (λ no_. absurd (true≢false (sym is ∙ unnamed text entry.key no_ apart))) (cases_Bool (is_named text entry.key));
+  before = λ j other less there. false_from_ne_true (is_named text other) (λ named.
+      let alike : same other entry.key ≡ true =
+      true-same other entry.key (same-true other text (and_parts (not (is_empty other)) (same other text) named).1 ∙ same-true text entry.key is) in
+      true≢false (sym alike ∙ differ j m other entry.key there (key_get entries m entry at) (λ e. omega (arith, less, e))));
+})
+
+-- a place without a parent place inherits nothing
+pub up_none : (parents : ℕ → Option ℕ) (most j : ℕ) → parents j ≡ None → up_from parents most j ≡ []
+up_none parents zero j none = refl
+up_none parents (suc most) j none = ap (λ (o : Option ℕ). option_map_or (λ k. k ∷ cond (nat_lt k j) (up_from parents most k) []) o []) none
 
 module _ (entries : List EntryTexts) (keys : List Text) (differ : AllDiffer (keys_of entries)) (none_empty : NoneNamesNothing entries) (none_missing : NoneNamesAMissingKey entries keys) where
   abbrev places : List Place
@@ -60,18 +77,6 @@ module _ (entries : List EntryTexts) (keys : List Text) (differ : AllDiffer (key
 
   abbrev parents : ℕ → Option ℕ
   parents = parent_place entries keys places
-
-  -- the text names the only entry with the key
-  only_named : (text : Text) (m : ℕ) (entry : EntryTexts) → slice_get entries m ≡ Some entry → same text entry.key ≡ true → (text ≡ [] → entry.key ≢ []) → entry_named entries text ≡ Some m
-  only_named text m entry at is apart = first_from text (keys_of entries) m (record {
-    key = entry.key;
-    stands = key_get entries m entry at;
-    named = ⊎_elim (λ yes_. yes_) (λ no_. absurd (true≢false (sym is ∙ unnamed text entry.key no_ apart))) (cases_Bool (is_named text entry.key));
-    before = λ j other less there. false_from_ne_true (is_named text other) (λ named.
-        let alike : same other entry.key ≡ true =
-        true-same other entry.key (same-true other text (and_parts (not (is_empty other)) (same other text) named).1 ∙ same-true text entry.key is) in
-        true≢false (sym alike ∙ differ j m other entry.key there (key_get entries m entry at) (λ e. omega (arith, less, e))));
-  })
 
   names_place : (n : ℕ) (entry : EntryTexts) (text : Text) → slice_get entries n ≡ Some entry → crossref_text entry ≡ Some text → place_named entries keys places text ≡ place_with text places
   names_place n entry text at says =
@@ -96,15 +101,11 @@ module _ (entries : List EntryTexts) (keys : List Text) (differ : AllDiffer (key
       let alike : same text other.0.key ≡ true = true-same text other.0.key (same-true text found.0.spelled found.2 ∙ sym (same-true other.0.key found.0.spelled other.2)) in
       ap (option_and_then (target_of entries)) at
       ∙ ap (option_and_then (entry_named entries)) said
-      ∙ only_named text m other.0 other.1 alike (λ nothing. none_empty n m entry other.0 at other.1 (said ∙ ap (λ (t : Text). Some t) nothing))))
+      ∙ only_named entries differ text m other.0 other.1 alike (λ nothing. none_empty n m entry other.0 at other.1 (said ∙ ap (λ (t : Text). Some t) nothing))))
 
   -- a place that is not held has no parent place
   no_parent : (j : ℕ) → holder places j ≡ None → parents j ≡ None
   no_parent j none = ap (λ (o : Option ℕ). option_and_then (place_named entries keys places) (option_and_then crossref_text (option_and_then (slice_get entries) o))) none
-
-  up_none : (most j : ℕ) → parents j ≡ None → up_from parents most j ≡ []
-  up_none zero j none = refl
-  up_none (suc most) j none = ap (λ (o : Option ℕ). option_map_or (λ k. k ∷ cond (nat_lt k j) (up_from parents most k) []) o []) none
 
   up_chain : (most i n : ℕ) → holder places i ≡ Some n → IsChain entries n (filter_map (holder places) (up_from parents most i))
   up_chain zero i n holds = tt
@@ -115,7 +116,7 @@ module _ (entries : List EntryTexts) (keys : List Text) (differ : AllDiffer (key
       later j m false chain = tt
 
       nothing : (j : ℕ) (b : Bool) → holder places j ≡ None → IsChain entries n (filter_map (holder places) (cond b (up_from parents most j) []))
-      nothing j true none = subst (λ (l : List ℕ). IsChain entries n (filter_map (holder places) l)) (sym (up_none most j (no_parent j none))) tt
+      nothing j true none = subst (λ (l : List ℕ). IsChain entries n (filter_map (holder places) l)) (sym (up_none parents most j (no_parent j none))) tt
       nothing j false none = tt
 
       by_holder : (j : ℕ) (o : Option ℕ) → holder places j ≡ o → parents i ≡ Some j → ((m : ℕ) → holder places j ≡ Some m → IsChain entries m (filter_map (holder places) (up_from parents most j)))

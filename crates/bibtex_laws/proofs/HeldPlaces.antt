@@ -60,13 +60,13 @@ module _ (entries : List EntryTexts) where
       split false = fit
 
   -- the rest of the entries, the first of which has the number n
-  abbrev IsRest : ℕ → List EntryTexts → Type 0
+  abbrev pub IsRest : ℕ → List EntryTexts → Type 0
   IsRest n rest = (j : ℕ) (entry : EntryTexts) → slice_get rest j ≡ Some entry → slice_get entries (n + j) ≡ Some entry
 
-  rest_head : (n : ℕ) (entry : EntryTexts) (rest : List EntryTexts) → IsRest n (entry ∷ rest) → slice_get entries n ≡ Some entry
+  pub rest_head : (n : ℕ) (entry : EntryTexts) (rest : List EntryTexts) → IsRest n (entry ∷ rest) → slice_get entries n ≡ Some entry
   rest_head n entry rest are = (let is : n ≡ n + 0 = omega arith in ap (slice_get entries) is) ∙ are zero entry refl
 
-  rest_tail : (n : ℕ) (entry : EntryTexts) (rest : List EntryTexts) → IsRest n (entry ∷ rest) → IsRest (suc n) rest
+  pub rest_tail : (n : ℕ) (entry : EntryTexts) (rest : List EntryTexts) → IsRest n (entry ∷ rest) → IsRest (suc n) rest
   rest_tail n entry rest are j other at = (let is : suc n + j ≡ n + suc j = omega arith in ap (slice_get entries) is) ∙ are (suc j) other at
 
   all_fit : (n : ℕ) (ps : List Place) (rest : List EntryTexts) → IsRest n rest → AllFit ps → AllFit (read_entries n ps rest)

@@ -2,7 +2,7 @@
 use Rattle.std.proofs.Common.{◌≡◌, ◌∙◌, Bool, true, false, ◌||◌, List, [], ◌∷◌, ⊎_elim, refl, sym, ap, ap₂, map}
 use Rattle.std.specs.List.{list_any}
 use Rattle.std.proofs.lemmas.Bool.{cases_Bool, false≢true}
-use Rattle.bib_spec.specs.Text.{Text, folded, same}
+use Rattle.bib_spec.specs.Text.{Text, same}
 use Rattle.bib_spec.specs.Records.{EntryTexts, keys_of}
 use Rattle.bib_spec.proofs.Names.{same-true, true-same, same_of, both_true}
 use Rattle.bibtex_spec.specs.ListLaws.{KeepsSame}

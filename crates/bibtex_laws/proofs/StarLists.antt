@@ -1,6 +1,7 @@
 -- Entries that nothing names add their records to the list for `*` alone, and change no other.
-use Rattle.std.proofs.Common.{◌≡◌, ◌∙◌, ℕ, zero, suc, ◌+◌, ◌≤◌, Bool, true, false, cond, ◌||◌, List, [], ◌∷◌, ◌++◌, Option, Some, None, option_map, slice_get, length, map, filter_map, refl, sym, ap, ap₂, arith, zero-add}
+use Rattle.std.proofs.Common.{◌≡◌, ◌∙◌, ℕ, zero, suc, ◌+◌, ◌≤◌, Bool, true, false, cond, ◌&&◌, ◌||◌, List, [], ◌∷◌, ◌++◌, Option, Some, None, option_map, option_and_then, slice_get, length, map, filter_map, refl, sym, ap, ap₂, arith, zero-add}
 use Rattle.std.specs.List.{list_any, enumerate_from, cons_option}
+use Rattle.std.proofs.Math.Bool.{and-false}
 use Rattle.std.proofs.lemmas.Bool.{cond-false, or_parts}
 use Rattle.std.proofs.lemmas.Option.{none-some, same_Some, slice_get-map}
 use Rattle.std.proofs.lemmas.List.{map-append}
@@ -9,10 +10,14 @@ use Rattle.bib_spec.specs.Records.{EntryTexts, keys_of}
 use Rattle.bib_spec.proofs.Names.{same_comm}
 use Rattle.edit_spec.specs.Edits.{has_same}
 use Rattle.bibtex_spec.specs.Places.{Place, added_place, places_of}
-use Rattle.bibtex_spec.specs.Listed.{first_same, place_with, ListedRecord, listed_record, record_at}
+use Rattle.bibtex_spec.specs.Listed.{first_same, is_missing, within, place_with, ListedRecord, listed_record, record_at}
 use Rattle.bibtex_laws.specs.StarLists.{star_list, heading, entry_heading, AreStrangers, GainsRecords, star_gains_strangers}
 use Rattle.bibtex_laws.proofs.StarPlaces.{star_alone, new_places, new_entries, seen_after, star_places, past, past_before, past_after, past_grows, past_order, more_by, get_past, skipped, renumbered, places_joined, seen_is, places_moved, places_still}
-use Rattle.bibtex_laws.proofs.StarRecords.{AreRenumbered, records_still}
+use Rattle.bibtex_laws.proofs.RenumberedRecords.{NamesItsPlace, AreRenumbered, records_still}
+
+star_names : NamesItsPlace star_alone
+star_names entries places text =
+    cond-false (is_missing entries text && false) (option_and_then (within places) None) (place_with text places) (and-false (is_missing entries text))
 
 -- ---- the keys of places
 
@@ -64,7 +69,7 @@ length_spelled : (places : List Place) → length (spelled_of places) ≡ length
 length_spelled [] = refl
 length_spelled (p ∷ places) = ap suc (length_spelled places)
 
-spelled_still : (number : ℕ → ℕ) (places : List Place) → spelled_of (map (renumbered number) places) ≡ spelled_of places
+pub spelled_still : (number : ℕ → ℕ) (places : List Place) → spelled_of (map (renumbered number) places) ≡ spelled_of places
 spelled_still number [] = refl
 spelled_still number (p ∷ places) = ap (λ (l : List Text). p.spelled ∷ l) (spelled_still number places)
 
@@ -120,7 +125,7 @@ all_new seen (entry ∷ entries) differ fresh =
 
 -- ---- the law
 
-get_first : {X : Type 0} (xs ys : List X) (j : ℕ) (x : X) → slice_get xs j ≡ Some x → slice_get (xs ++ ys) j ≡ Some x
+pub get_first : {X : Type 0} (xs ys : List X) (j : ℕ) (x : X) → slice_get xs j ≡ Some x → slice_get (xs ++ ys) j ≡ Some x
 get_first [] ys j x at = absurd (none-some x at)
 get_first (y ∷ xs) ys zero x at = at
 get_first (y ∷ xs) ys (suc j) x at = get_first xs ys j x at
@@ -210,10 +215,10 @@ module _ (first added last : List EntryTexts) (strange : AreStrangers added (fir
     first_rows : new_rows 0 A ≡ old_rows 0 A
     first_rows =
         ap (new_rows 0) (sym A_still)
-        ∙ records_still (first ++ last) (first ++ (added ++ last)) ps qs number spot are least 0 0 A (λ j less. ap (past (length A) (length B)) (zero-add j) ∙ past_before (length A) (length B) j less ∙ sym (zero-add j))
+        ∙ records_still star_alone star_names (first ++ last) (first ++ (added ++ last)) ps qs number spot are least 0 0 A (λ j less. ap (past (length A) (length B)) (zero-add j) ∙ past_before (length A) (length B) j less ∙ sym (zero-add j))
 
     last_rows : new_rows (length A + length B) (map (renumbered number) C) ≡ old_rows (length A) C
-    last_rows = records_still (first ++ last) (first ++ (added ++ last)) ps qs number spot are least (length A) (length A + length B) C
+    last_rows = records_still star_alone star_names (first ++ last) (first ++ (added ++ last)) ps qs number spot are least (length A) (length A + length B) C
         (λ j less. past_after (length A) (length B) j ∙ (let is : length B + (length A + j) ≡ length A + length B + j = omega arith in is))
 
     old_list : star_list (first ++ last) least ≡ old_rows 0 A ++ old_rows (length A) C

@@ -59,7 +59,7 @@ any_with key (q ∷ ps) p = ap (λ (b : Bool). has_key key q || b) (any_with key
     swap true false c = refl
     swap false b c = refl
 
-any_alike : (a b : Text) (keys : List Text) → same a b ≡ true → list_any (same a) keys ≡ list_any (same b) keys
+pub any_alike : (a b : Text) (keys : List Text) → same a b ≡ true → list_any (same a) keys ≡ list_any (same b) keys
 any_alike a b [] is = refl
 any_alike a b (key ∷ keys) is = ap₂ (λ (c d : Bool). c || d) (same_alike a b key is) (any_alike a b keys is)
 

@@ -2,13 +2,17 @@
 //! code here, only functions that do nothing and carry the laws.
 #![tactic(auto)]
 
+mod key_lists;
 mod other_entries;
 mod records;
 mod renaming;
 mod star_lists;
 
-pub use other_entries::an_entry_that_nothing_names_keeps_lists;
-pub use records::records_are_those_of_the_dialect;
+pub use key_lists::keys_give_the_cited_list_of_the_dialect;
+pub use other_entries::{
+    entries_that_nothing_names_keep_lists, removing_and_adding_keep_other_lists,
+};
+pub use records::{a_missing_key_gives_fields_of_another_entry, records_are_those_of_the_dialect};
 pub use renaming::{
     macro_edits_keep_lists, regenerating_keys_keeps_lists, renaming_a_key_keeps_lists,
 };

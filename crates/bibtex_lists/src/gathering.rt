@@ -13,7 +13,8 @@ ghost use Rattle.bib_store.specs.Gathering.{AreTaken, with_field, with_fields, I
 
 use crate::texts::field_text_of;
 use bib_definitions::MacrosAt;
-use bib_scan::{Fields, Seq, Text};
+use bib_scan::Fields;
+use bib_text::{Seq, Text};
 use folded_map::FoldedMap;
 use std::alloc::{AllocError, Global};
 

@@ -8,8 +8,8 @@ ghost use Rattle.bibtex_places.specs.Lists.{listed_entries, record_of_listed, is
 ghost use Rattle.bibtex_places.specs.declared.fault.BibtexFault.TheVariants.{TooDeep};
 
 use crate::entry_keys::entry_keys;
-use bib_scan::Text;
 use bib_store::{Database, ItemList};
+use bib_text::Text;
 use bibtex_places::{BibtexFault, BibtexList, list_as_bibtex};
 use std::alloc::Global;
 

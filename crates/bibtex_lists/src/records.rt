@@ -8,8 +8,8 @@ ghost use Rattle.bib_store.specs.Gathering.{AreTaken};
 ghost use Rattle.bibtex_lists.specs.Records.{kind_at, record_as_listed};
 
 use crate::gathering::{Gathered, lower};
-use bib_scan::{Seq, Text, copied};
 use bib_store::{Database, ItemList, Record};
+use bib_text::{Seq, Text, copied};
 use bibtex_places::BibtexEntry;
 use std::alloc::{AllocError, Global};
 

@@ -8,8 +8,8 @@ ghost use Rattle.bib_ris.specs.Dropped.{dropped_line, dropped_lines};
 ghost use Rattle.bibtex_lists.specs.Records.{record_as_listed};
 
 use bib_data::Record;
-use bib_scan::Text;
 use bib_store::{Database, Paged};
+use bib_text::Text;
 use bibtex_lists::{BibtexEntry, record_as_bibtex};
 use ris_format::dropped_of;
 use std::alloc::{AllocError, Global};

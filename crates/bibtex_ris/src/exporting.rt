@@ -11,8 +11,8 @@ ghost use Rattle.bibtex_ris.specs.Fitting.{AreFitting};
 
 use bib_data::Record;
 use bib_ris::in_plain;
-use bib_scan::Text;
 use bib_store::{Database, Paged};
+use bib_text::Text;
 use bibtex_lists::{BibtexEntry, record_as_bibtex};
 use ris_format::{ris_of, write_entry};
 use ris_text::write_record;

@@ -59,6 +59,13 @@ const ROWS: &[Row<'_>] = &[
         lines: b"c\tP\nP\n",
     },
     Row {
+        name: "a later entry with the key of a parent changes nothing",
+        file: b"@misc{c, crossref={p}}@misc{p, t=1}@misc{P, t=2}\n\n",
+        keys: &[b"c"],
+        least: 1,
+        lines: b"c\tp\np\n",
+    },
+    Row {
         name: "a parent that is not listed is not named",
         file: CHAIN,
         keys: &[b"b", b"c"],

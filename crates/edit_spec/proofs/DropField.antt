@@ -8,7 +8,7 @@ use Rattle.edit_spec.proofs.WrittenRows.{EndsKey, ends_at_row, ends_without_rows
 use Rattle.edit_spec.proofs.EditedItems.{AreItems, made_reads, item_as, named_not_empty, comment-of_entry}
 
 module _ (name : Text) where
-  drop_rows : (before : Text) (rows : List Row) → IsSpace before → All (IsRow name_limit) rows → AreRows (without_field name before rows)
+  pub drop_rows : (before : Text) (rows : List Row) → IsSpace before → All (IsRow name_limit) rows → AreRows (without_field name before rows)
   drop_rows before [] s are = are_rows before [] s are
   drop_rows before (row ∷ rows) s are =
       let rest = without_field name row.assignment.space_after rows in

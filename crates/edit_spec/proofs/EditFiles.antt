@@ -4,12 +4,14 @@ use Rattle.edit_spec.proofs.Words.{cond-false, flat_map-append, Text, same, Valu
 use Rattle.edit_spec.proofs.Words.{target, Chunk, Kept, Replaced, applied, changed, new_keys, holds, any_part, NewEntry, Edit, SetField, DropField, AddEntry, RemoveEntry, MoveEntry, RenameKey, RenameMacro, InlineMacro, IntroduceMacro, RegenerateKeys, AddMany, SetType, UndefineMacro, RenameField, DefineMacro, SetMacro, leaving, defines, is_entry, from_first}
 use Rattle.edit_spec.proofs.Words.{with_first_tree, without_first, with_item, items_with, new_row, row_to, row_before, with_field, without_field, of_entry, item_of, in_line, in_braces, with_value, with_crossref, next_number, tree_with_keys, items_with_keys, key_for, name_renamed, use_renamed}
 use Rattle.edit_spec.proofs.Words.{use_inlined, uses_inlined, text_of_macro, definition_as, definition_of, part_introduced, introduced, edited, token, entry_chunks, items_chunks, kept_items, kept_rows, pieces_of, option_cases}
-use Rattle.std.proofs.Common.{[], take-append-drop, scan}
+use Rattle.std.proofs.Common.{[], take-append-drop, scan, if◌then◌else◌}
 use Rattle.std.specs.List.{concat}
 use Rattle.bib_spec.specs.Pieces.{Fit}
 use Rattle.bib_spec.specs.Bytes.{at_sign, comma, equals_sign}
 use Rattle.bib_spec.specs.Tree.{opening_bytes, open_byte, close_byte, after_key_bytes, entry_bytes}
+use Rattle.edit_spec.specs.Edits.{Which, EntryChange, SetsField, DropsField, RenamesFields, SetsType, RenamesKey, Removes, Moves, DefinitionChange, SetsValue, Undefines, ChangeEntry, ChangeDefinition, number_of, item_meant, entry_meant, definition_meant, with_tree_at, without_item, with_later_rows, entry_with_one_field, entry_without_one_field, entry_changed, definition_changed}
 use Rattle.edit_spec.specs.Edits.{entry_with_rows, entry_with_type, row_renamed, entry_renamed, item_changed, line_end, definition_to, definitions_end, put_after}
+use Rattle.edit_spec.specs.EditChunks.{chunks_from, later_rows_chunked, one_field_set, one_field_dropped, groups_without_item, item_moved, entry_chunked, definition_chunked}
 use Rattle.edit_spec.specs.EditChunks.{kept_item, after_name, row_name_chunks, names_replaced, each_entry_as, body_and_rest, chunks_from_first, without_body, entry_body, entry_as, value_replaced, field_set, field_dropped, type_replaced, crossref_chunks, tree_key_chunks, item_key_chunks, groups_without, inserted, chunks_after, definition_chunks, moved, appended, changed_items, chunks}
 use Rattle.edit_spec.specs.Laws.{chunks_are_files, pieces_lead_to_edited}
 use Rattle.edit_spec.proofs.TreeChunks.{chunk_text, assignment_regroup, last-read, read, old-read, new-read, read-append, token_old, token_new, row-parts, last-read, entry-read, items-old, items-new, rows-kept, items-kept}
@@ -538,6 +540,199 @@ module _ (name : Text) (value : Value) where
   value_new items = first_new (defines name) definition_set (with_first_tree (definition_to value))
       (λ item items. rest-read true (definition_chunks value item.tree) item items (tree_bytes (definition_to value item.tree)) (definition_new item.tree)) items
 
+-- ---- one of several
+
+-- rows after the first of a name
+module _ (name : Text) (change : Text → List Row → Text × List Row) (chunked : Text → List Row → List Chunk) where
+  later_old : ((before : Text) (rows : List Row) → read false (chunked before rows) ≡ before ++ rows_bytes rows) → (k : ℕ) (before : Text) (rows : List Row) →
+      read false (later_rows_chunked name k chunked before rows) ≡ before ++ rows_bytes rows
+  later_old h zero before rows = h before rows
+  later_old h (suc k) before [] = refl
+  later_old h (suc k) before (row ∷ rows) =
+      ap (λ t. before ++ (row_start row ++ (value_bytes row.assignment.value ++ t))) (later_old h (if same row.assignment.name name then k else suc k) row.assignment.space_after rows)
+      ∙ ap (λ t. before ++ t) (row_and_rest row (rows_bytes rows))
+
+  later_new : ((before : Text) (rows : List Row) → read true (chunked before rows) ≡ spaced_rows (change before rows)) → (k : ℕ) (before : Text) (rows : List Row) →
+      read true (later_rows_chunked name k chunked before rows) ≡ spaced_rows (with_later_rows name k change before rows)
+  later_new h zero before rows = h before rows
+  later_new h (suc k) before [] = refl
+  later_new h (suc k) before (row ∷ rows) =
+      let next : ℕ = if same row.assignment.name name then k else suc k in
+      let rest = with_later_rows name next change row.assignment.space_after rows in
+      ap (λ t. before ++ (row_start row ++ (value_bytes row.assignment.value ++ t))) (later_new h next row.assignment.space_after rows)
+      ∙ ap (λ t. before ++ t) (row_and_rest (row_before rest.0 row) (rows_bytes rest.1))
+
+-- from item n on
+module _ (change : Item → List Item → List Chunk) where
+  from_old : ((item : Item) (items : List Item) → read false (change item items) ≡ items_bytes (item ∷ items)) → (n : ℕ) (items : List Item) →
+      read false (chunks_from n change items) ≡ items_bytes items
+  from_old h n [] = refl
+  from_old h zero (item ∷ items) = h item items
+  from_old h (suc n) (item ∷ items) = ap (λ t. item_bytes item ++ t) (from_old h n items)
+
+  from_new : (become : Tree → Tree) → ((item : Item) (items : List Item) → read true (change item items) ≡ items_bytes (record item { tree = become item.tree } ∷ items)) → (n : ℕ) (items : List Item) →
+      read true (chunks_from n change items) ≡ items_bytes (with_tree_at n become items)
+  from_new become h n [] = refl
+  from_new become h zero (item ∷ items) = h item items
+  from_new become h (suc n) (item ∷ items) = ap (λ t. item_bytes item ++ t) (from_new become h n items)
+
+-- an entry that becomes another one
+module _ (become : Entry → Entry) (chunked : Entry → List Chunk)
+    (old : (e : Entry) → read false (chunked e) ≡ entry_bytes e) (new : (e : Entry) → read true (chunked e) ≡ entry_bytes (become e))
+  where
+    one_old : (n : ℕ) (items : List Item) → read false (chunks_from n (entry_as chunked) items) ≡ items_bytes items
+    one_old n items = from_old (entry_as chunked) (λ item items. rest-read false (entry_body chunked item.tree) item items (tree_bytes item.tree) (body_old become chunked old new item.tree)) n items
+
+    one_new : (n : ℕ) (items : List Item) → read true (chunks_from n (entry_as chunked) items) ≡ items_bytes (with_tree_at n (of_entry become) items)
+    one_new n items = from_new (entry_as chunked) (of_entry become)
+        (λ item items. rest-read true (entry_body chunked item.tree) item items (tree_bytes (of_entry become item.tree)) (body_new become chunked old new item.tree)) n items
+
+-- the fields of an entry
+module _ (field : Which) where
+  module _ (value : Value) where
+    one_set_old : (e : Entry) → read false (one_field_set field value e) ≡ entry_bytes e
+    one_set_old e = entry-read false (Kept e.key) (later_rows_chunked field.name (number_of field) (field_set field.name value) e.space_after_key e.rows) e e.key e.space_after_key e.rows refl
+        (later_old field.name (with_field field.name value) (field_set field.name value) (set_old field.name value) (number_of field) e.space_after_key e.rows)
+
+    one_set_new : (e : Entry) → read true (one_field_set field value e) ≡ entry_bytes (entry_with_one_field field value e)
+    one_set_new e =
+        let rows = with_later_rows field.name (number_of field) (with_field field.name value) e.space_after_key e.rows in
+        entry-read true (Kept e.key) (later_rows_chunked field.name (number_of field) (field_set field.name value) e.space_after_key e.rows) e e.key rows.0 rows.1 refl
+        (later_new field.name (with_field field.name value) (field_set field.name value) (set_new field.name value) (number_of field) e.space_after_key e.rows)
+
+  one_drop_old : (e : Entry) → read false (one_field_dropped field e) ≡ entry_bytes e
+  one_drop_old e = entry-read false (Kept e.key) (later_rows_chunked field.name (number_of field) (field_dropped field.name) e.space_after_key e.rows) e e.key e.space_after_key e.rows refl
+      (later_old field.name (without_field field.name) (field_dropped field.name) (drop_old field.name) (number_of field) e.space_after_key e.rows)
+
+  one_drop_new : (e : Entry) → read true (one_field_dropped field e) ≡ entry_bytes (entry_without_one_field field e)
+  one_drop_new e =
+      let rows = with_later_rows field.name (number_of field) (without_field field.name) e.space_after_key e.rows in
+      entry-read true (Kept e.key) (later_rows_chunked field.name (number_of field) (field_dropped field.name) e.space_after_key e.rows) e e.key rows.0 rows.1 refl
+      (later_new field.name (without_field field.name) (field_dropped field.name) (drop_new field.name) (number_of field) e.space_after_key e.rows)
+
+-- item n removed
+out_regroup : (f t r : Text) → f ++ (t ++ r) ≡ (f ++ t) ++ r
+out_regroup f t r = simp append_assoc
+
+beside_regroup : (front body trail_now rest trail_was rest_was : Text) → trail_now ++ rest ≡ trail_was ++ rest_was → front ++ ((body ++ trail_was) ++ rest_was) ≡ front ++ ((body ++ trail_now) ++ rest)
+beside_regroup front body trail_now rest trail_was rest_was e =
+    ap (λ t. front ++ t) (append_assoc body trail_was rest_was ∙ ap (λ t. body ++ t) (sym e) ∙ sym (append_assoc body trail_now rest))
+
+body_gone : (item : Item) (items : List Item) → read false (without_body item items) ≡ items_bytes (item ∷ items)
+body_gone item items = rest-read false (Replaced (tree_bytes item.tree) [] ∷ []) item items (tree_bytes item.tree) (append-nil (tree_bytes item.tree))
+
+out_new : (n : ℕ) (front : Text) (items : List Item) → front ++ read true (chunks_from n without_body items) ≡ bytes_of (without_item n front items)
+out_new n front [] = refl
+out_new zero front (item ∷ items) =
+    ap (λ t. front ++ t) (rest-read true (Replaced (tree_bytes item.tree) [] ∷ []) item items [] refl) ∙ out_regroup front item.trail (items_bytes items)
+out_new (suc n) front (item ∷ items) =
+    let rest = without_item n item.trail items in
+    beside_regroup front (tree_bytes item.tree) rest.front (items_bytes rest.items) item.trail (read true (chunks_from n without_body items)) (sym (out_new n item.trail items))
+
+-- item n moved
+its_old : (n : ℕ) (items : List Item) → read false (groups_without_item n items).0 ++ concat (map (read false) (groups_without_item n items).1) ≡ concat (map item_bytes items)
+its_old n [] = refl
+its_old zero (item ∷ items) = ap₂ (λ x y. (tree_bytes item.tree ++ x) ++ concat y) (append-nil item.trail) (singles false items)
+its_old (suc n) (item ∷ items) =
+    append_assoc (item_bytes item) (read false (groups_without_item n items).0) (concat (map (read false) (groups_without_item n items).1))
+    ∙ ap (λ t. item_bytes item ++ t) (its_old n items)
+
+its_front : (n : ℕ) (front : Text) (items : List Item) → (without_item n front items).front ≡ front ++ read true (groups_without_item n items).0
+its_front n front [] = sym (append-nil front)
+its_front zero front (item ∷ items) = sym (ap (λ t. front ++ t) (append-nil item.trail))
+its_front (suc n) front (item ∷ items) = sym (append-nil front)
+
+its_items : (n : ℕ) (front : Text) (items : List Item) → map (read true) (groups_without_item n items).1 ≡ map item_bytes (without_item n front items).items
+its_items n front [] = refl
+its_items zero front (item ∷ items) = singles true items
+its_items (suc n) front (item ∷ items) =
+    ap₂ ◌∷◌ (append_assoc (tree_bytes item.tree) item.trail (read true (groups_without_item n items).0) ∙ ap (λ t. tree_bytes item.tree ++ t) (sym (its_front n item.trail items))) (its_items n item.trail items)
+
+module _ (n place : ℕ) (items : List Item) (item : Item) where
+  abbrev left : List Chunk × List (List Chunk)
+  left = groups_without_item n items
+
+  abbrev put : List Chunk
+  put = inserted (in_line item.tree)
+
+  one_moved-read : (b : Bool) → read b (item_moved n place items item) ≡ read b left.0 ++ concat (insert (map (read b) left.1) place (read b put))
+  one_moved-read b = read-append b left.0 (flat_map (λ chunks. chunks) (insert left.1 place put))
+      ∙ ap (λ t. read b left.0 ++ t) (groups-read b (insert left.1 place put) ∙ ap concat (insert-map (read b) left.1 place put))
+
+  one_moved_old : read false (item_moved n place items item) ≡ items_bytes items
+  one_moved_old = one_moved-read false ∙ ap (λ t. read false left.0 ++ t) (insert-nothing (map (read false) left.1) place) ∙ its_old n items ∙ sym (items-concat items)
+
+  one_moved_new : (front : Text) → front ++ read true (item_moved n place items item) ≡
+      (without_item n front items).front ++ items_bytes (insert (without_item n front items).items place (in_line item.tree))
+  one_moved_new front =
+      ap (λ t. front ++ t) (one_moved-read true)
+      ∙ sym (append_assoc front (read true left.0) (concat (insert (map (read true) left.1) place (read true put))))
+      ∙ ap₂ ◌++◌ (sym (its_front n front items))
+      (ap₂ (λ l t. concat (insert l place t)) (its_items n front items) (append-nil (item_bytes (in_line item.tree)))
+      ∙ sym (ap concat (insert-map item_bytes (without_item n front items).items place (in_line item.tree)))
+      ∙ sym (items-concat (insert (without_item n front items).items place (in_line item.tree))))
+
+-- the value of definition n
+module _ (value : Value) where
+  abbrev one_definition : Item → List Item → List Chunk
+  one_definition item items = body_and_rest (definition_chunks value item.tree) item items
+
+  one_value_old : (n : ℕ) (items : List Item) → read false (chunks_from n one_definition items) ≡ items_bytes items
+  one_value_old n items = from_old one_definition (λ item items. rest-read false (definition_chunks value item.tree) item items (tree_bytes item.tree) (definition_old [] value item.tree)) n items
+
+  one_value_new : (n : ℕ) (items : List Item) → read true (chunks_from n one_definition items) ≡ items_bytes (with_tree_at n (definition_to value) items)
+  one_value_new n items = from_new one_definition (definition_to value)
+      (λ item items. rest-read true (definition_chunks value item.tree) item items (tree_bytes (definition_to value item.tree)) (definition_new [] value item.tree)) n items
+
+module _ (key : Which) (db : Reading) where
+  changed_old : (change : EntryChange) (n : ℕ) → read false (entry_chunked key change db n) ≡ items_bytes db.items
+  changed_old (SetsField field value) n = one_old (entry_with_one_field field value) (one_field_set field value) (one_set_old field value) (one_set_new field value) n db.items
+  changed_old (DropsField field) n = one_old (entry_without_one_field field) (one_field_dropped field) (one_drop_old field) (one_drop_new field) n db.items
+  changed_old (RenamesFields from to) n = one_old (entry_renamed from to) (names_replaced from to) (renamed_old from to) (renamed_new from to) n db.items
+  changed_old (SetsType kind_name) n = one_old (entry_with_type kind_name) (type_replaced kind_name) (type_old kind_name) (type_new kind_name) n db.items
+  changed_old (RenamesKey to) n = keys_old (key_for (entry_meant key (entries_of db)) to) (entries_of db) 0 db.items
+  changed_old Removes n = from_old without_body body_gone n db.items
+  changed_old (Moves place) n = ⊎_elim
+      (λ none. ap (λ o. read false (option_map_or (item_moved n place db.items) o (kept_items db.items))) none ∙ items-kept false db.items)
+      (λ some. ap (λ o. read false (option_map_or (item_moved n place db.items) o (kept_items db.items))) some.1 ∙ one_moved_old n place db.items some.0)
+      (option_cases (slice_get db.items n))
+
+  changed_new : (change : EntryChange) (n : ℕ) → db.front ++ read true (entry_chunked key change db n) ≡ bytes_of (entry_changed key change n db)
+  changed_new (SetsField field value) n = ap (λ t. db.front ++ t) (one_new (entry_with_one_field field value) (one_field_set field value) (one_set_old field value) (one_set_new field value) n db.items)
+  changed_new (DropsField field) n = ap (λ t. db.front ++ t) (one_new (entry_without_one_field field) (one_field_dropped field) (one_drop_old field) (one_drop_new field) n db.items)
+  changed_new (RenamesFields from to) n = ap (λ t. db.front ++ t) (one_new (entry_renamed from to) (names_replaced from to) (renamed_old from to) (renamed_new from to) n db.items)
+  changed_new (SetsType kind_name) n = ap (λ t. db.front ++ t) (one_new (entry_with_type kind_name) (type_replaced kind_name) (type_old kind_name) (type_new kind_name) n db.items)
+  changed_new (RenamesKey to) n = ap (λ t. db.front ++ t) (keys_new (key_for (entry_meant key (entries_of db)) to) (entries_of db) 0 db.items)
+  changed_new Removes n = out_new n db.front db.items
+  changed_new (Moves place) n = ⊎_elim
+      (λ none. ap (λ o. db.front ++ read true (option_map_or (item_moved n place db.items) o (kept_items db.items))) none ∙ ap (λ t. db.front ++ t) (items-kept true db.items)
+      ∙ sym (ap (λ o. bytes_of (option_map_or (λ item. with_item place (in_line item.tree) (without_item n db.front db.items)) o db)) none))
+      (λ some. ap (λ o. db.front ++ read true (option_map_or (item_moved n place db.items) o (kept_items db.items))) some.1 ∙ one_moved_new n place db.items some.0 db.front
+      ∙ sym (ap (λ o. bytes_of (option_map_or (λ item. with_item place (in_line item.tree) (without_item n db.front db.items)) o db)) some.1))
+      (option_cases (slice_get db.items n))
+
+  -- no entry is meant, or it is item n
+  meant_old : (change : EntryChange) (o : Option ℕ) → read false (option_map_or (entry_chunked key change db) o (kept_items db.items)) ≡ items_bytes db.items
+  meant_old change None = items-kept false db.items
+  meant_old change (Some n) = changed_old change n
+
+  meant_new : (change : EntryChange) (o : Option ℕ) →
+      db.front ++ read true (option_map_or (entry_chunked key change db) o (kept_items db.items)) ≡ bytes_of (option_map_or (λ n. entry_changed key change n db) o db)
+  meant_new change None = ap (λ t. db.front ++ t) (items-kept true db.items)
+  meant_new change (Some n) = changed_new change n
+
+module _ (db : Reading) where
+  defined_old : (change : DefinitionChange) (o : Option ℕ) → read false (option_map_or (λ n. definition_chunked change n db.items) o (kept_items db.items)) ≡ items_bytes db.items
+  defined_old change None = items-kept false db.items
+  defined_old (SetsValue value) (Some n) = one_value_old value n db.items
+  defined_old Undefines (Some n) = from_old without_body body_gone n db.items
+
+  defined_new : (change : DefinitionChange) (o : Option ℕ) →
+      db.front ++ read true (option_map_or (λ n. definition_chunked change n db.items) o (kept_items db.items)) ≡ bytes_of (option_map_or (λ n. definition_changed change n db) o db)
+  defined_new change None = ap (λ t. db.front ++ t) (items-kept true db.items)
+  defined_new (SetsValue value) (Some n) = ap (λ t. db.front ++ t) (one_value_new value n db.items)
+  defined_new Undefines (Some n) = out_new n db.front db.items
+
 -- ---- all edits
 
 module _ (key_base : Record → Text) (db : Reading) where
@@ -570,6 +765,8 @@ module _ (key_base : Record → Text) (db : Reading) where
   items_old (RenameField from to (Some key)) = became_old (entry_renamed from to) (names_replaced from to) (renamed_old from to) (renamed_new from to) key db.items
   items_old (DefineMacro name value) = after_old (DefinitionTree (definition_as name value)) (definitions_end db.items) db.items
   items_old (SetMacro name value) = value_old name value db.items
+  items_old (ChangeEntry key change) = meant_old key db change (item_meant key db.items)
+  items_old (ChangeDefinition name k change) = defined_old db change (definition_meant name k db.items)
 
   file_new : (e : Edit) → db.front ++ read true (changed_items key_base db e) ≡ bytes_of (edited key_base db e)
   file_new (SetField key name value) = ap (λ t. db.front ++ t)
@@ -603,6 +800,8 @@ module _ (key_base : Record → Text) (db : Reading) where
   file_new (RenameField from to (Some key)) = ap (λ t. db.front ++ t) (became_new (entry_renamed from to) (names_replaced from to) (renamed_old from to) (renamed_new from to) key db.items)
   file_new (DefineMacro name value) = ap (λ t. db.front ++ t) (after_new (DefinitionTree (definition_as name value)) (definitions_end db.items) db.items)
   file_new (SetMacro name value) = ap (λ t. db.front ++ t) (value_new name value db.items)
+  file_new (ChangeEntry key change) = meant_new key db change (item_meant key db.items)
+  file_new (ChangeDefinition name k change) = defined_new db change (definition_meant name k db.items)
 
 pub chunks-are-files : chunks_are_files
 chunks-are-files key_base db e = (

@@ -15,6 +15,8 @@ use Rattle.edit_spec.proofs.AddedEntries.{add_entry-reads, add_many-reads}
 use Rattle.edit_spec.proofs.MovedEntries.{remove_entry-reads, move_entry-reads}
 use Rattle.edit_spec.proofs.RekeyedEntries.{rename_key-reads}
 use Rattle.edit_spec.proofs.MadeKeyLengths.{regenerate_keys-reads}
+use Rattle.edit_spec.specs.Edits.{ChangeEntry, ChangeDefinition}
+use Rattle.edit_spec.proofs.OneOfSeveral.{change_entry-reads, change_definition-reads}
 use Rattle.edit_spec.proofs.ChangedParts.{rename_macro-reads, introduce_macro-reads, inline_macro-reads}
 
 pub edited-reads : edited_reads
@@ -34,6 +36,8 @@ edited-reads key_base file db (UndefineMacro name) base reads accepted = undefin
 edited-reads key_base file db (RenameField from to key) base reads accepted = rename_field-reads key_base file db from to key reads accepted
 edited-reads key_base file db (DefineMacro name value) base reads accepted = defined_macro-reads key_base file db name value reads accepted
 edited-reads key_base file db (SetMacro name value) base reads accepted = macro_set-reads key_base file db name value reads accepted
+edited-reads key_base file db (ChangeEntry key change) base reads accepted = change_entry-reads key_base file db reads key change accepted
+edited-reads key_base file db (ChangeDefinition name k change) base reads accepted = change_definition-reads key_base file db reads name k change accepted
 
 pub applied-opens : applied_opens
 applied-opens key_base file db e base reads accepted =

@@ -11,7 +11,7 @@ number-first : (o : Option ℕ) → is_number (option_map suc o) zero ≡ false
 number-first None = refl
 number-first (Some m) = ne_eqb (suc m) zero (omega arith)
 
-number-later : (o : Option ℕ) (n : ℕ) → is_number (option_map suc o) (suc n) ≡ is_number o n
+pub number-later : (o : Option ℕ) (n : ℕ) → is_number (option_map suc o) (suc n) ≡ is_number o n
 number-later None n = refl
 number-later (Some m) n = ⊎_elim
     (λ t. eq-eqb (suc m) (suc n) (ap suc (eqb-true m n t)) ∙ sym t)

@@ -20,6 +20,7 @@ pub mod OtherEntries
 pub mod AddedAfter
 -- ---- items that an edit leaves
 pub mod KeptTrees
+pub mod MeantMembers
 pub mod UntouchedItems
 -- ---- the files of an edit, in chunks
 pub mod TreeChunks
@@ -44,7 +45,12 @@ pub mod MovedEntries
 pub mod RekeyedEntries
 pub mod ChangedParts
 pub mod MadeKeyLengths
+pub mod OneOfSeveral
 pub mod EditedReads
+-- ---- one of several
+pub mod MeantEntries
+pub mod OneEntry
+pub mod OneDefinition
 -- ---- examples
 pub mod ExampleFacts
 pub mod AcceptedExamples

@@ -3,6 +3,7 @@ use Rattle.edit_spec.proofs.Words.{◌≡◌, ◌||◌, ◌≢◌, ℕ, zero, su
 use Rattle.edit_spec.proofs.Words.{list_any, option_map_or, cases_Bool, cond-true, cond-false, none-some, Text, folded, EntryTexts, Record, RecordField, crossref_text, keys_of, first_named, entry_named, is_named, target_of, target, other_than, parent, own_fields, missing, unvisited, ancestors}
 use Rattle.edit_spec.proofs.Words.{ancestors_from, fields_at, with_inherited, record_of, expanded, number_with_one_more, both_true, option_cases}
 use Rattle.std.proofs.Common.{[], eqb-true}
+use Rattle.bib_spec.proofs.Places.{suc_some}
 
 -- an element's place is less than the list's length
 pub within : {X : Type 0} (xs : List X) (n : ℕ) (x : X) → slice_get xs n ≡ Some x → n < length xs
@@ -78,16 +79,36 @@ first_named-insert (suc i) text key (k ∷ ks) h e = ⊎_elim
     ∙ sym (ap (option_map (number_with_one_more (suc i))) (cond-false (is_named text k) (Some zero) (option_map suc (first_named text ks)) t)))
     (cases_Bool (is_named text k))
 
+-- a text that names an earlier key names it still
+pub first_named-early : (i : ℕ) (text key : Text) (keys : List Text) (m : ℕ) → i ≤ length keys → first_named text (insert keys i key) ≡ Some m → m < i →
+    first_named text (insert keys i key) ≡ option_map (number_with_one_more i) (first_named text keys)
+first_named-early zero text key keys m h e lt = absurd (not-suc-le-zero lt)
+first_named-early (suc i) text key [] m h e lt = absurd (not-suc-le-zero h)
+first_named-early (suc i) text key (k ∷ ks) m h e lt = ⊎_elim
+    (λ t. cond-true (is_named text k) (Some zero) (option_map suc (first_named text (insert ks i key))) t
+    ∙ sym (ap (option_map (number_with_one_more (suc i))) (cond-true (is_named text k) (Some zero) (option_map suc (first_named text ks)) t)))
+    (λ t.
+    let later = suc_some (first_named text (insert ks i key)) m (sym (cond-false (is_named text k) (Some zero) (option_map suc (first_named text (insert ks i key))) t) ∙ e) in
+    let low = later.2 in
+    cond-false (is_named text k) (Some zero) (option_map suc (first_named text (insert ks i key))) t
+    ∙ ap (option_map suc) (first_named-early i text key ks later.0 (le_of_suc-le-suc h) later.1 (omega (arith, low, lt))) ∙ more_suc i (first_named text ks)
+    ∙ sym (ap (option_map (number_with_one_more (suc i))) (cond-false (is_named text k) (Some zero) (option_map suc (first_named text ks)) t)))
+    (cases_Bool (is_named text k))
+
 -- ---- an entry more
 
-module _ (i : ℕ) (added : EntryTexts) (entries : List EntryTexts) (within : i ≤ length entries)
-    (unnamed : (n : ℕ) (entry : EntryTexts) (text : Text) → slice_get entries n ≡ Some entry → crossref_text entry ≡ Some text → is_named text added.key ≡ false) where
+-- each crossref names the entry that it named, by its new number, if the key is put in at i
+abbrev pub IsCounted : ℕ → Text → List EntryTexts → Type 0
+IsCounted i key entries = (n : ℕ) (entry : EntryTexts) (text : Text) → slice_get entries n ≡ Some entry → crossref_text entry ≡ Some text →
+    first_named text (insert (keys_of entries) i key) ≡ option_map (number_with_one_more i) (first_named text (keys_of entries))
+
+module _ (i : ℕ) (added : EntryTexts) (entries : List EntryTexts) (within : i ≤ length entries) (counted : IsCounted i added.key entries) where
   target_of_more : (n : ℕ) (entry : EntryTexts) → slice_get entries n ≡ Some entry → target_of (insert entries i added) entry ≡ option_map (number_with_one_more i) (target_of entries entry)
   target_of_more n entry at = ⊎_elim
       (λ none. ap (option_and_then (entry_named (insert entries i added))) none ∙ sym (ap (λ o. option_map (number_with_one_more i) (option_and_then (entry_named entries) o)) none))
       (λ some. ap (option_and_then (entry_named (insert entries i added))) some.1
       ∙ ap (first_named some.0) (keys-insert entries i added)
-      ∙ first_named-insert i some.0 added.key (keys_of entries) (let e = length-keys entries in omega (arith, e, within)) (unnamed n entry some.0 at some.1)
+      ∙ counted n entry some.0 at some.1
       ∙ sym (ap (λ o. option_map (number_with_one_more i) (option_and_then (entry_named entries) o)) some.1))
       (option_cases (crossref_text entry))
 

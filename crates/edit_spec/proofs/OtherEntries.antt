@@ -8,7 +8,7 @@ use Rattle.std.proofs.lemmas.Bool.{and_right}
 use Rattle.edit_spec.specs.OtherLaws.{KeepsOthers, remove_entry_keeps_others, add_entry_keeps_others}
 use Rattle.bib_spec.proofs.Places.{none_is, suc_some}
 use Rattle.edit_spec.proofs.RenameKey.{only}
-use Rattle.edit_spec.proofs.OneMore.{length-keys, slice_get-insert, slice_get-insert_same, length-insert, keys-insert, more_other, parent_more, expanded_more}
+use Rattle.edit_spec.proofs.OneMore.{length-keys, slice_get-insert, slice_get-insert_same, length-insert, keys-insert, first_named-insert, IsCounted, more_other, parent_more, expanded_more}
 
 -- the entries of `more` are the entries of `fewer` with one more put in at i
 pub record IsOneMore (i : ℕ) (key : Text) (fewer more : List EntryTexts) : Type 0 where
@@ -94,23 +94,33 @@ module _ (key : Text) where
 abbrev pub IsUnnamed : Text → List EntryTexts → Type 0
 IsUnnamed key entries = (n : ℕ) (entry : EntryTexts) (text : Text) → slice_get entries n ≡ Some entry → crossref_text entry ≡ Some text → is_named text key ≡ false
 
--- if no crossref names the added entry's key, the other entries keep their records and parents
-keeps_others : (i : ℕ) (key : Text) (fewer more : Reading) → IsOneMore i key (entries_of fewer) (entries_of more) → IsUnnamed key (entries_of fewer) →
+-- if each crossref names the entry that it named, the other entries keep their records and parents
+pub keeps_counted : (i : ℕ) (key : Text) (fewer more : Reading) → IsOneMore i key (entries_of fewer) (entries_of more) → IsCounted i key (entries_of fewer) →
     preambles_of more ≡ preambles_of fewer → KeepsOthers (number_with_one_more i) 1 fewer more
-keeps_others i key fewer more one unnamed same_preambles = record {
+keeps_counted i key fewer more one counted same_preambles = record {
   count = ap length one.is ∙ length-insert (entries_of fewer) i one.added ∙ sym (add-one (length (entries_of fewer)));
-  records = λ depth n _. ap (λ l. expanded depth l (number_with_one_more i n)) one.is ∙ expanded_more i one.added (entries_of fewer) one.within unnamed' depth n;
-  parents = λ n _. ap (λ l. parent l (number_with_one_more i n)) one.is ∙ parent_more i one.added (entries_of fewer) one.within unnamed' n;
+  records = λ depth n _. ap (λ l. expanded depth l (number_with_one_more i n)) one.is ∙ expanded_more i one.added (entries_of fewer) one.within counted' depth n;
+  parents = λ n _. ap (λ l. parent l (number_with_one_more i n)) one.is ∙ parent_more i one.added (entries_of fewer) one.within counted' n;
   preambles = same_preambles;
 }
   where
-    unnamed' : (n : ℕ) (entry : EntryTexts) (text : Text) → slice_get (entries_of fewer) n ≡ Some entry → crossref_text entry ≡ Some text → is_named text one.added.key ≡ false
-    unnamed' n entry text at says = ap (is_named text) one.has_key ∙ unnamed n entry text at says
+    counted' : IsCounted i one.added.key (entries_of fewer)
+    counted' = subst (λ (k : Text). IsCounted i k (entries_of fewer)) (sym one.has_key) counted
+
+-- and so if no crossref names the added entry's key
+keeps_others : (i : ℕ) (key : Text) (fewer more : Reading) → IsOneMore i key (entries_of fewer) (entries_of more) → IsUnnamed key (entries_of fewer) →
+    preambles_of more ≡ preambles_of fewer → KeepsOthers (number_with_one_more i) 1 fewer more
+keeps_others i key fewer more one unnamed same_preambles = keeps_counted i key fewer more one
+    (λ n entry text at says.
+    let e = length-keys (entries_of fewer) in
+    let w = one.within in
+    first_named-insert i text key (keys_of (entries_of fewer)) (omega (arith, e, w)) (unnamed n entry text at says))
+    same_preambles
 
 -- ---- removing
 
 -- the parent is the entry that the crossref names
-parent-named : (entries : List EntryTexts) (n : ℕ) (entry : EntryTexts) (text : Text) (m i : ℕ) → slice_get entries n ≡ Some entry → crossref_text entry ≡ Some text →
+pub parent-named : (entries : List EntryTexts) (n : ℕ) (entry : EntryTexts) (text : Text) (m i : ℕ) → slice_get entries n ≡ Some entry → crossref_text entry ≡ Some text →
     entry_named entries text ≡ Some m → m ≡ i → i ≢ n → parent entries n ≡ Some i
 parent-named entries n entry text m i at says named is other =
     ap (λ o. option_and_then (other_than n) (option_and_then (target_of entries) o)) at

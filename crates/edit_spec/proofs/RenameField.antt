@@ -53,7 +53,7 @@ module _ (from to : Text) where
     ends_still d space [] last s ends = ends
     ends_still d space (row ∷ rows) last s ends = ends_at_row d space (row_renamed from to row) (map (row_renamed from to) rows) last s
 
-    tree_is : (tree : Tree) → IsTree name_limit tree → IsTree name_limit (of_entry (entry_renamed from to) tree)
+    pub tree_is : (tree : Tree) → IsTree name_limit tree → IsTree name_limit (of_entry (entry_renamed from to) tree)
     tree_is (CommentTree h) is = is
     tree_is (DefinitionTree d) is = is
     tree_is (PreambleTree p) is = is
@@ -89,7 +89,7 @@ module _ (from to : Text) where
   fields-become m [] = refl
   fields-become m (row ∷ rows) = ap (λ fields. field_of m (row_renamed from to row) ∷ fields) (fields-become m rows)
 
-  texts : (m : Macros) (e : Entry) → texts_of m (entry_renamed from to e) ≡ become (texts_of m e)
+  pub texts : (m : Macros) (e : Entry) → texts_of m (entry_renamed from to e) ≡ become (texts_of m e)
   texts m e = ap (λ fields. let it : EntryTexts = record { kind = e.opening.head.type_name; key = e.key; fields = fields } in it) (fields-become m e.rows)
 
   -- in every entry
@@ -166,7 +166,7 @@ module _ (from to : Text) where
         pub parents-renamed : (n : ℕ) → parent (entries_of new) n ≡ parent (entries_of db) n
         parents-renamed n = parent-kept by_number (entries_of db) (entries_of new) keys at (λ n entry. crossrefs (is_renamed n) entry) n
 
-        all-kept : preambles_of new ≡ preambles_of db → ((k : ℕ) → macros_at months new.items k ≡ macros_at months db.items k) →
+        pub all-kept : preambles_of new ≡ preambles_of db → ((k : ℕ) → macros_at months new.items k ≡ macros_at months db.items k) →
             KeepsAllButNames from to is_renamed db new × KeepsMacros db new × KeepsCitations db new
         all-kept preambles macros = (
           record { count = long; entries = at; parents = parents-renamed; preambles = preambles },

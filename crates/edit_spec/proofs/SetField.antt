@@ -8,7 +8,7 @@ use Rattle.edit_spec.proofs.WrittenRows.{no_space, EndsKey, ends_at_row, AreRows
 use Rattle.edit_spec.proofs.EditedItems.{made_reads, item_as, from_first-are, named_not_empty, comment-of_entry, of_entry-is}
 
 module _ (name : Text) (value : Value) where
-  set_rows : is_name name ≡ true → IsValue name_limit value → (before : Text) (rows : List Row) → IsSpace before → All (IsRow name_limit) rows → AreRows (with_field name value before rows)
+  pub set_rows : is_name name ≡ true → IsValue name_limit value → (before : Text) (rows : List Row) → IsSpace before → All (IsRow name_limit) rows → AreRows (with_field name value before rows)
   set_rows n v before [] s are = are_rows [] (new_row name value before ∷ []) no_space
       (All-cons (IsRow name_limit) (new_row name value before) [] (new_row-is name value before n v s) (All-nil (IsRow name_limit)))
   set_rows n v before (row ∷ rows) s are =
@@ -23,7 +23,7 @@ module _ (name : Text) (value : Value) where
       (are_rows before (row_before rest.0 row ∷ rest.1) s (All-cons (IsRow name_limit) (row_before rest.0 row) rest.1 (row_before_space rest.0 row later.space is) later.rows)))
       (cases_Bool (same row.assignment.name name))
 
-  set_ends : (d : Delimiter) (last : Option Text) (before : Text) (rows : List Row) → IsSpace before →
+  pub set_ends : (d : Delimiter) (last : Option Text) (before : Text) (rows : List Row) → IsSpace before →
       EndsKey d (with_field name value before rows).0 (with_field name value before rows).1 last
   set_ends d last before [] s = ends_at_row d [] (new_row name value before) [] last no_space
   set_ends d last before (row ∷ rows) s =

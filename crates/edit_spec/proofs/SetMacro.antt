@@ -17,7 +17,7 @@ use Rattle.edit_spec.proofs.AgreeingMacros.{IsNone, AgreeBut, none_of_with, none
 -- ---- what is made reads
 
 module _ (value : Value) where
-  definition_to-is : IsValue name_limit value → (tree : Tree) → IsTree name_limit tree → IsTree name_limit (definition_to value tree)
+  pub definition_to-is : IsValue name_limit value → (tree : Tree) → IsTree name_limit tree → IsTree name_limit (definition_to value tree)
   definition_to-is valued (DefinitionTree d) is = record {
     opening = is.opening;
     type_name = is.type_name;
@@ -33,7 +33,7 @@ module _ (value : Value) where
   definition_to-is valued (PreambleTree p) is = is
   definition_to-is valued (EntryTree e) is = is
 
-  comment-definition_to : (tree : Tree) → is_comment (definition_to value tree) ≡ is_comment tree
+  pub comment-definition_to : (tree : Tree) → is_comment (definition_to value tree) ≡ is_comment tree
   comment-definition_to (CommentTree c) = refl
   comment-definition_to (DefinitionTree d) = refl
   comment-definition_to (PreambleTree p) = refl
@@ -58,7 +58,7 @@ macro_set-reads key_base file db name value reads accepted =
 -- ---- what entries say, given which of them use the names
 
 -- each entry has its key, and all its texts if it uses none of the names
-abbrev KeepTexts : List Bool → List EntryTexts → List EntryTexts → Type 0
+abbrev pub KeepTexts : List Bool → List EntryTexts → List EntryTexts → Type 0
 KeepTexts [] [] [] = Unit {0}
 KeepTexts [] [] (new ∷ news) = ⊥
 KeepTexts [] (old ∷ olds) news = ⊥
@@ -66,7 +66,7 @@ KeepTexts (user ∷ users) [] news = ⊥
 KeepTexts (user ∷ users) (old ∷ olds) [] = ⊥
 KeepTexts (user ∷ users) (old ∷ olds) (new ∷ news) = (new.key ≡ old.key) × (user ≡ false → new ≡ old) × KeepTexts users olds news
 
-keys-kept : (users : List Bool) (olds news : List EntryTexts) → KeepTexts users olds news → keys_of news ≡ keys_of olds
+pub keys-kept : (users : List Bool) (olds news : List EntryTexts) → KeepTexts users olds news → keys_of news ≡ keys_of olds
 keys-kept [] [] [] h = refl
 keys-kept [] [] (new ∷ news) h = absurd h
 keys-kept [] (old ∷ olds) news h = absurd h
@@ -74,7 +74,7 @@ keys-kept (user ∷ users) [] news h = absurd h
 keys-kept (user ∷ users) (old ∷ olds) [] h = absurd h
 keys-kept (user ∷ users) (old ∷ olds) (new ∷ news) h = ap₂ ◌∷◌ h.0 (keys-kept users olds news h.2)
 
-texts-kept : (users : List Bool) (olds news : List EntryTexts) → KeepTexts users olds news → (n : ℕ) → unwrap_or (slice_get users n) false ≡ false → slice_get news n ≡ slice_get olds n
+pub texts-kept : (users : List Bool) (olds news : List EntryTexts) → KeepTexts users olds news → (n : ℕ) → unwrap_or (slice_get users n) false ≡ false → slice_get news n ≡ slice_get olds n
 texts-kept [] [] [] h n unused = refl
 texts-kept [] [] (new ∷ news) h n unused = absurd h
 texts-kept [] (old ∷ olds) news h n unused = absurd h
@@ -87,7 +87,7 @@ module _ (value : Value) (names : List Text) (m n : Macros) (agree : AgreeBut na
     (fewer : (tree : Tree) → any_part (is_use_of all) tree ≡ false → any_part (is_use_of names) tree ≡ false)
   where
     -- an item more, whose definition may have got the value
-    item-kept : (users : List Bool) (olds news : List EntryTexts) → KeepTexts users olds news → (tree : Tree) → KeepTexts (entry_uses all tree ++ users) (entry_in m tree ++ olds) (entry_in n tree ++ news)
+    pub item-kept : (users : List Bool) (olds news : List EntryTexts) → KeepTexts users olds news → (tree : Tree) → KeepTexts (entry_uses all tree ++ users) (entry_in m tree ++ olds) (entry_in n tree ++ news)
     item-kept users olds news h (CommentTree c) = h
     item-kept users olds news h (DefinitionTree d) = h
     item-kept users olds news h (PreambleTree p) = h
@@ -96,20 +96,20 @@ module _ (value : Value) (names : List Text) (m n : Macros) (agree : AgreeBut na
         one : {a b : EntryTexts} → a ∷ [] ≡ b ∷ [] → a ≡ b
         one e = cc
 
-    set-kept : (users : List Bool) (olds news : List EntryTexts) → KeepTexts users olds news → (tree : Tree) →
+    pub set-kept : (users : List Bool) (olds news : List EntryTexts) → KeepTexts users olds news → (tree : Tree) →
         KeepTexts (entry_uses all tree ++ users) (entry_in m tree ++ olds) (entry_in n (definition_to value tree) ++ news)
     set-kept users olds news h (CommentTree c) = h
     set-kept users olds news h (DefinitionTree d) = h
     set-kept users olds news h (PreambleTree p) = h
     set-kept users olds news h (EntryTree e) = item-kept users olds news h (EntryTree e)
 
-    preamble-kept : (tree : Tree) → preamble_uses all tree ≡ false → preamble_in n tree ≡ preamble_in m tree
+    pub preamble-kept : (tree : Tree) → preamble_uses all tree ≡ false → preamble_in n tree ≡ preamble_in m tree
     preamble-kept (CommentTree c) h = refl
     preamble-kept (DefinitionTree d) h = refl
     preamble-kept (PreambleTree p) h = preamble-alike names m n agree (PreambleTree p) (fewer (PreambleTree p) h)
     preamble-kept (EntryTree e) h = refl
 
-    preamble-set : (tree : Tree) → preamble_uses all tree ≡ false → preamble_in n (definition_to value tree) ≡ preamble_in m tree
+    pub preamble-set : (tree : Tree) → preamble_uses all tree ≡ false → preamble_in n (definition_to value tree) ≡ preamble_in m tree
     preamble-set (CommentTree c) h = refl
     preamble-set (DefinitionTree d) h = refl
     preamble-set (PreambleTree p) h = preamble-kept (PreambleTree p) h
@@ -117,19 +117,19 @@ module _ (value : Value) (names : List Text) (m n : Macros) (agree : AgreeBut na
 
 -- ---- along the items
 
-abbrev users_of : List Text → List Item → List Bool
+abbrev pub users_of : List Text → List Item → List Bool
 users_of names items = flat_map (λ item. entry_uses names item.tree) items
 
 module _ (name : Text) (value : Value) where
   -- the name is one of these
-  abbrev HasName : List Text → Type 0
+  abbrev pub HasName : List Text → Type 0
   HasName names = (x : Text) → IsNone names x → same x name ≡ false
 
-  has_with : (names : List Text) → HasName names → (tree : Tree) → HasName (with_dependent names tree)
+  pub has_with : (names : List Text) → HasName names → (tree : Tree) → HasName (with_dependent names tree)
   has_with names has tree x none = has x (none_of_with names tree x none)
 
   -- after the definition, and after it with its new value
-  after-set : (names : List Text) (m n : Macros) → AgreeBut names m n → HasName names → (tree : Tree) → defines name tree ≡ true → AgreeBut (with_dependent names tree) (macros_after m tree) (macros_after n (definition_to value tree))
+  pub after-set : (names : List Text) (m n : Macros) → AgreeBut names m n → HasName names → (tree : Tree) → defines name tree ≡ true → AgreeBut (with_dependent names tree) (macros_after m tree) (macros_after n (definition_to value tree))
   after-set names m n agree has (CommentTree c) e x none = absurd (false≢true e)
   after-set names m n agree has (PreambleTree p) e x none = absurd (false≢true e)
   after-set names m n agree has (EntryTree t) e x none = absurd (false≢true e)
@@ -145,7 +145,7 @@ module _ (name : Text) (value : Value) where
   set_item item = record item { tree = definition_to value item.tree }
 
   -- the items after the definition
-  entries_rest : (names : List Text) (m n : Macros) → AgreeBut names m n → (items : List Item) →
+  pub entries_rest : (names : List Text) (m n : Macros) → AgreeBut names m n → (items : List Item) →
       KeepTexts (users_of (dependents names items) items) (gathered entry_in m items) (gathered entry_in n items)
   entries_rest names m n agree [] = tt
   entries_rest names m n agree (item ∷ items) =
@@ -172,10 +172,10 @@ module _ (name : Text) (value : Value) where
 
   -- ---- preambles
 
-  abbrev no_preamble : List Text → List Item → Bool
+  abbrev pub no_preamble : List Text → List Item → Bool
   no_preamble names items = list_any (λ item. preamble_uses names item.tree) items
 
-  preambles_rest : (names : List Text) (m n : Macros) → AgreeBut names m n → (items : List Item) → no_preamble (dependents names items) items ≡ false →
+  pub preambles_rest : (names : List Text) (m n : Macros) → AgreeBut names m n → (items : List Item) → no_preamble (dependents names items) items ≡ false →
       gathered preamble_in n items ≡ gathered preamble_in m items
   preambles_rest names m n agree [] h = refl
   preambles_rest names m n agree (item ∷ items) h =
@@ -202,7 +202,7 @@ module _ (name : Text) (value : Value) where
 
   -- ---- what names stand for
 
-  at_rest : (names : List Text) (m n : Macros) → AgreeBut names m n → (items : List Item) (k : ℕ) → AgreeBut (dependents names items) (macros_at m items k) (macros_at n items k)
+  pub at_rest : (names : List Text) (m n : Macros) → AgreeBut names m n → (items : List Item) (k : ℕ) → AgreeBut (dependents names items) (macros_at m items k) (macros_at n items k)
   at_rest names m n agree items zero x none = agree x (none_of_all names items x none)
   at_rest names m n agree [] (suc k) x none = agree x none
   at_rest names m n agree (item ∷ items) (suc k) x none =
@@ -308,7 +308,7 @@ module _ (user : ℕ → Bool) (entries new : List EntryTexts) (keys : keys_of n
       let both = or_parts (user n) (list_any user ns) h in
       ap (λ o. with_inherited new (own ++ missing own (option_map_or own_fields o [])) ns) (at n both.0) ∙ inherited-same (own ++ missing own (fields_at entries n)) ns both.1
 
-  records-same : (depth n : ℕ) → list_any user (n ∷ ancestors entries depth n) ≡ false → expanded depth new n ≡ expanded depth entries n
+  pub records-same : (depth n : ℕ) → list_any user (n ∷ ancestors entries depth n) ≡ false → expanded depth new n ≡ expanded depth entries n
   records-same depth n h =
       let both = or_parts (user n) (list_any user (ancestors entries depth n)) h in
       ap (option_map (record_of depth new n)) (at n both.0) ∙ each (slice_get entries n) both.1

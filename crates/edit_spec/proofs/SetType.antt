@@ -14,7 +14,7 @@ use Rattle.edit_spec.proofs.EditedItems.{made_reads, item_as, from_first-are, co
 
 -- ---- an entry of the grammar
 
-typed_entry : (kind_name : Text) → is_type kind_name ≡ true → (e : Entry) → IsEntry name_limit e → IsEntry name_limit (entry_with_type kind_name e)
+pub typed_entry : (kind_name : Text) → is_type kind_name ≡ true → (e : Entry) → IsEntry name_limit e → IsEntry name_limit (entry_with_type kind_name e)
 typed_entry kind_name kind e is =
     let both = and_parts (is_type_name kind_name) (is_no_keyword kind_name) kind in
     record {
@@ -52,11 +52,11 @@ set_type-reads key_base file db key kind_name reads accepted =
 -- ---- the entries
 
 -- an entry's texts, with its new type if it gets one
-abbrev typed : Option Text → EntryTexts → EntryTexts
+abbrev pub typed : Option Text → EntryTexts → EntryTexts
 typed o entry = record entry { kind = unwrap_or o entry.kind }
 
 -- the new type is that of the one entry
-typed-one : (kind_name : Text) (found : Option ℕ) (n : ℕ) (o : Option EntryTexts) →
+pub typed-one : (kind_name : Text) (found : Option ℕ) (n : ℕ) (o : Option EntryTexts) →
     option_map (λ entry. if is_number found n then typed (Some kind_name) entry else entry) o ≡ option_map (typed (type_for found kind_name n)) o
 typed-one kind_name found n None = refl
 typed-one kind_name None n (Some entry) = refl
@@ -92,7 +92,7 @@ module _ (kinds : ℕ → Option Text) (entries new : List EntryTexts) (keys : k
         ∙ inherited-kept (own_fields entry) (ancestors entries depth n))
         ∙ with_type-record (kinds n) depth n entry
 
-    expanded-kept : (depth n : ℕ) → expanded depth new n ≡ option_map (record_with_type (kinds n)) (expanded depth entries n)
+    pub expanded-kept : (depth n : ℕ) → expanded depth new n ≡ option_map (record_with_type (kinds n)) (expanded depth entries n)
     expanded-kept depth n = ap (option_map (record_of depth new n)) (at n) ∙ ⊎_elim
         (λ none. ap (λ o. option_map (record_of depth new n) (option_map (typed (kinds n)) o)) none
         ∙ sym (ap (λ o. option_map (record_with_type (kinds n)) (option_map (record_of depth entries n) o)) none))

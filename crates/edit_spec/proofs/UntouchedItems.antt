@@ -9,9 +9,12 @@ use Rattle.edit_spec.proofs.Words.{text_of_macro, part_introduced, introduced, h
 use Rattle.std.proofs.Common.{◌-◌, [], if◌then◌else◌, eqb-true, ne_eqb}
 use Rattle.std.proofs.lemmas.List.{nil_from_length}
 use Rattle.std.proofs.lemmas.Option.{slice_get-map}
+use Rattle.edit_spec.specs.Edits.{Which, SetsField, DropsField, RenamesFields, SetsType, RenamesKey, Removes, Moves, SetsValue, Undefines, ChangeEntry, ChangeDefinition, item_meant, entry_meant, definition_meant, with_tree_at, without_item, entry_with_one_field, entry_without_one_field, move_item, entry_changed, with_keys}
 use Rattle.edit_spec.specs.Edits.{item_with_keys, last_position, entry_with_type, row_renamed, entry_renamed, line_end, definition_as, definition_to, definitions_end, put_after}
+use Rattle.edit_spec.specs.OtherLaws.{is_meant, number_without, moved_one_stays}
 use Rattle.edit_spec.specs.OtherLaws.{number_with_one_less, passes, number_of_first, is_first, has_row, is_any_entry, is_braced, is_in_braces, names_already, has_its_keys, is_or_refers_to, is_changed, gained, StandsAt, KeepsItems, untouched_items_stay, moved_entry_stays}
 use Rattle.edit_spec.proofs.RenameKey.{only}
+use Rattle.edit_spec.proofs.MeantMembers.{accepted-is}
 use Rattle.edit_spec.proofs.OneMore.{slice_get-insert, slice_get-insert_same, within}
 use Rattle.edit_spec.proofs.AddedAfter.{slice_get-append}
 use Rattle.edit_spec.proofs.KeptTrees.{IsNameLeft, leaving-leaves, tree-left}
@@ -566,6 +569,143 @@ put_at tree (suc (suc k)) (first ∷ items) (suc n) item at =
     let rest = put_at tree (suc k) items n item at in
     record { item = rest.item; at = rest.at; trail_is = rest.trail_is ∙ sym (ap (λ b. if b then line_end else item.trail) (eq-suc (suc n) (suc k))); tree_is = rest.tree_is }
 
+-- ---- one of several
+
+-- item `p` has another tree
+tree_at : (p : ℕ) (change : Tree → Tree) (items : List Item) (n : ℕ) (item : Item) → slice_get items n ≡ Some item → StandsAt (with_tree_at p change items) n (p == n) item.tree item.trail
+tree_at p change [] n item at = absurd (none-some item at)
+tree_at zero change (first ∷ items) zero item at = record {
+  item = record first { tree = change first.tree };
+  at = refl;
+  trail_is = ap (λ (i : Item). i.trail) (same_Some first item at);
+  tree_is = λ e. absurd (both_ways (zero == zero) e (eq-eqb zero zero refl));
+}
+tree_at zero change (first ∷ items) (suc n) item at = stands (record first { tree = change first.tree } ∷ items) (suc n) (zero == suc n) item item at refl (λ _. refl)
+tree_at (suc p) change (first ∷ items) zero item at = let is = same_Some first item at in record {
+  item = first;
+  at = refl;
+  trail_is = ap (λ (i : Item). i.trail) is;
+  tree_is = λ _. ap (λ (i : Item). i.tree) is;
+}
+tree_at (suc p) change (first ∷ items) (suc n) item at =
+    let rest = tree_at p change items n item at in
+    record { item = rest.item; at = rest.at; trail_is = rest.trail_is; tree_is = λ e. rest.tree_is (sym (eq-suc p n) ∙ e) }
+
+-- item `p` is gone
+front_without : (p : ℕ) (front : Text) (items : List Item) → (without_item p front items).front ≡ front ++ gained (λ n. p == n) items 0
+front_without p front [] = sym (append-nil front) ∙ ap (λ t. front ++ t) (nothing (p == zero))
+  where
+    nothing : (b : Bool) → ◌≡◌ {A = Text} [] (if b then [] else [])
+    nothing true = refl
+    nothing false = refl
+front_without zero front (first ∷ items) = ap (λ t. front ++ t) (sym (cond-true (zero == zero) first.trail [] (eq-eqb zero zero refl)))
+front_without (suc p) front (first ∷ items) = sym (append-nil front) ∙ ap (λ t. front ++ t) (sym (cond-false (suc p == zero) first.trail [] (suc-zero p)))
+
+item_without : (p : ℕ) (front : Text) (items : List Item) (n : ℕ) (item : Item) → (p == n) ≡ false → slice_get items n ≡ Some item →
+    slice_get (without_item p front items).items (number_with_one_less p n) ≡ Some (record item { trail = item.trail ++ gained (λ n. p == n) items (suc n) })
+item_without p front [] n item stays at = absurd (none-some item at)
+item_without zero front (first ∷ items) zero item stays at = absurd (both_ways (zero == zero) stays (eq-eqb zero zero refl))
+item_without zero front (first ∷ items) (suc n) item stays at =
+    at ∙ ap (with_trail item) (sym (append-nil item.trail) ∙ sym (ap (λ t. item.trail ++ t) (gained-after (first ∷ items) 0 (suc (suc n)) (zero-suc (suc n)))))
+item_without (suc p) front (first ∷ items) zero item stays at =
+    let is = same_Some first item at in
+    ap (with_trail first) (front_without p first.trail items ∙ ap (λ t. first.trail ++ t) (sym (gained-suc first items p zero)))
+    ∙ ap (λ (i : Item). with_trail i (i.trail ++ gained (λ n. suc p == n) (first ∷ items) 1)) is
+item_without (suc p) front (first ∷ items) (suc n) item stays at =
+    item_without p first.trail items n item (sym (eq-suc p n) ∙ stays) at ∙ ap (λ t. with_trail item (item.trail ++ t)) (sym (gained-suc first items p (suc n)))
+
+length-without : (p : ℕ) (front : Text) (items : List Item) (item : Item) → slice_get items p ≡ Some item → suc (length (without_item p front items).items) ≡ length items
+length-without p front [] item at = absurd (none-some item at)
+length-without zero front (first ∷ items) item at = refl
+length-without (suc p) front (first ∷ items) item at = ap suc (length-without p first.trail items item at)
+
+-- the item that is meant has another tree
+meant_in_place : (change : Tree → Tree) (db : Reading) (o : Option ℕ) →
+    KeepsItems (λ n. false) (is_meant o) (λ n. n) (joined (λ n. false) db) db (option_map_or (λ p. let new : Reading = record db { items = with_tree_at p change db.items } in new) o db)
+meant_in_place change db None = in_place (is_meant None) db db refl (λ n item at. stands db.items n false item item at refl (λ _. refl))
+meant_in_place change db (Some p) = in_place (is_meant (Some p)) db (record db { items = with_tree_at p change db.items }) refl (λ n item at. tree_at p change db.items n item at)
+
+-- the item that is meant is gone
+meant_gone : (db : Reading) (o : Option ℕ) →
+    KeepsItems (is_meant o) (λ n. false) (number_without o) (joined (is_meant o) db) db (option_map_or (λ p. without_item p db.front db.items) o db)
+meant_gone db None = in_place (λ n. false) db db refl (λ n item at. stands db.items n false item item at refl (λ _. refl))
+meant_gone db (Some p) = record {
+  front = front_without p db.front db.items;
+  items = λ n item stays at. record {
+    item = record item { trail = item.trail ++ gained (is_meant (Some p)) db.items (suc n) };
+    at = item_without p db.front db.items n item stays at;
+    trail_is = refl;
+    tree_is = λ _. refl;
+  };
+  order = λ n m a b h _. less-order p n m (other_number p n a) (other_number p m b) h;
+}
+
+-- the item that is meant, and its new place
+record IsMoveOf (o : Option ℕ) (place : ℕ) (db : Reading) : Type 0 where
+  p : ℕ
+  found : o ≡ Some p
+  moved : Item
+  at : slice_get db.items p ≡ Some moved
+  within : place ≤ length (without_item p db.front db.items).items
+
+one_move_of : (key_base : Record → Text) (db : Reading) (key : Which) (place : ℕ) → IsAccepted key_base db (ChangeEntry key (Moves place)) → IsMoveOf (item_meant key db.items) place db
+one_move_of key_base db key place accepted =
+    let it = accepted-is key_base db key (Moves place) accepted in
+    let last : last_position db (ChangeEntry key (Moves place)) ≡ length db.items - 1 = ap (λ o. if is_some o then length db.items - 1 else length db.items) it.numbered in
+    let high = accepted BadPosition in
+    let fewer = length-without it.n db.front db.items it.item it.at in
+    record { p = it.n; found = it.found; moved = it.item; at = it.at; within = omega (arith, last, high, fewer) }
+
+one_moved-is : (o : Option ℕ) (place : ℕ) (db : Reading) (it : IsMoveOf o place db) →
+    option_map_or (λ p. move_item p place db) o db ≡ with_item place (in_line it.moved.tree) (without_item it.p db.front db.items)
+one_moved-is o place db it = ap (λ o. option_map_or (λ p. move_item p place db) o db) it.found
+    ∙ ap (λ o. option_map_or (λ (item : Item). with_item place (in_line item.tree) (without_item it.p db.front db.items)) o db) it.at
+
+meant_moved : (db : Reading) (o : Option ℕ) (place : ℕ) (it : IsMoveOf o place db) →
+    KeepsItems (is_meant o) (λ n. false) (λ n. number_with_one_more place (number_without o n)) (joined (is_meant o) db) db (option_map_or (λ p. move_item p place db) o db)
+meant_moved db o place it = subst
+    (λ (o' : Option ℕ). KeepsItems (is_meant o') (λ n. false) (λ n. number_with_one_more place (number_without o' n)) (joined (is_meant o') db) db (option_map_or (λ p. move_item p place db) o db)) (sym it.found)
+    (subst (λ (new : Reading). KeepsItems (is_meant (Some it.p)) (λ n. false) (λ n. number_with_one_more place (number_with_one_less it.p n)) (joined (is_meant (Some it.p)) db) db new)
+    (sym (one_moved-is o place db it)) placed)
+  where
+    placed : KeepsItems (is_meant (Some it.p)) (λ n. false) (λ n. number_with_one_more place (number_with_one_less it.p n)) (joined (is_meant (Some it.p)) db) db
+        (with_item place (in_line it.moved.tree) (without_item it.p db.front db.items))
+    placed =
+        let rest = meant_gone db (Some it.p) in record {
+          front = rest.front;
+          items = λ n item stays at. let stood = rest.items n item stays at in record {
+            item = stood.item;
+            at = slice_get-insert (without_item it.p db.front db.items).items place (in_line it.moved.tree) it.within (number_with_one_less it.p n) ∙ stood.at;
+            trail_is = stood.trail_is;
+            tree_is = stood.tree_is;
+          };
+          order = λ n m a b h w. more-order place (number_with_one_less it.p n) (number_with_one_less it.p m) (rest.order n m a b h w);
+        }
+
+-- the entry that is meant has its new key
+meant_rekeyed : (key_base : Record → Text) (db : Reading) (key : Which) (to : Text) (o : Option ℕ) →
+    KeepsItems (λ n. false) (is_changed key_base db (ChangeEntry key (RenamesKey to))) (λ n. n) (joined (λ n. false) db) db (option_map_or (λ p. entry_changed key (RenamesKey to) p db) o db)
+meant_rekeyed key_base db key to None =
+    in_place (is_changed key_base db (ChangeEntry key (RenamesKey to))) db db refl
+    (λ n item at. stands db.items n (is_changed key_base db (ChangeEntry key (RenamesKey to)) n) item item at refl (λ _. refl))
+meant_rekeyed key_base db key to (Some p) =
+    in_place (is_changed key_base db (ChangeEntry key (RenamesKey to))) db (with_keys (key_for (entry_meant key (entries_of db)) to) db) refl
+    (λ n item at. keys_at (key_for (entry_meant key (entries_of db)) to) db n (is_changed key_base db (ChangeEntry key (RenamesKey to)) n) item at
+    (λ e. keyed_tree (key_for (entry_meant key (entries_of db)) to) (entries_of db) (entries_before n db) item.tree
+    (λ entry. not_keyed (entries_of db) (entry_meant key (entries_of db)) to (entries_before n db)
+    (ap (λ b. b && is_or_refers_to (entries_of db) (entry_meant key (entries_of db)) (entries_before n db)) (sym (passes-at is_any_entry db.items n item at ∙ entry)) ∙ e))))
+
+pub moved_one-stays : moved_one_stays
+moved_one-stays key_base db key place accepted =
+    let it = one_move_of key_base db key place accepted in (
+      it.p,
+      it.moved,
+      it.found,
+      it.at,
+      ap (λ (new : Reading). slice_get new.items place) (one_moved-is (item_meant key db.items) place db it)
+          ∙ slice_get-insert_same (without_item it.p db.front db.items).items place (in_line it.moved.tree) it.within,
+    )
+
 pub untouched_items-stay : untouched_items_stay
 untouched_items-stay key_base db (SetField key name value) accepted =
     in_place (is_changed key_base db (SetField key name value)) db (edited key_base db (SetField key name value)) refl
@@ -627,3 +767,12 @@ untouched_items-stay key_base db (DefineMacro name value) accepted = record {
 untouched_items-stay key_base db (SetMacro name value) accepted =
     in_place (is_changed key_base db (SetMacro name value)) db (edited key_base db (SetMacro name value)) refl
     (λ n item at. changed_at (defines name) (definition_to value) db.items n item at)
+untouched_items-stay key_base db (ChangeEntry key (SetsField field value)) accepted = meant_in_place (of_entry (entry_with_one_field field value)) db (item_meant key db.items)
+untouched_items-stay key_base db (ChangeEntry key (DropsField field)) accepted = meant_in_place (of_entry (entry_without_one_field field)) db (item_meant key db.items)
+untouched_items-stay key_base db (ChangeEntry key (RenamesFields from to)) accepted = meant_in_place (of_entry (entry_renamed from to)) db (item_meant key db.items)
+untouched_items-stay key_base db (ChangeEntry key (SetsType kind_name)) accepted = meant_in_place (of_entry (entry_with_type kind_name)) db (item_meant key db.items)
+untouched_items-stay key_base db (ChangeEntry key (RenamesKey to)) accepted = meant_rekeyed key_base db key to (item_meant key db.items)
+untouched_items-stay key_base db (ChangeEntry key Removes) accepted = meant_gone db (item_meant key db.items)
+untouched_items-stay key_base db (ChangeEntry key (Moves place)) accepted = meant_moved db (item_meant key db.items) place (one_move_of key_base db key place accepted)
+untouched_items-stay key_base db (ChangeDefinition name k (SetsValue value)) accepted = meant_in_place (definition_to value) db (definition_meant name k db.items)
+untouched_items-stay key_base db (ChangeDefinition name k Undefines) accepted = meant_gone db (definition_meant name k db.items)

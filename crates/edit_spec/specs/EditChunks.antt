@@ -11,7 +11,7 @@ use Rattle.bib_spec.specs.Records.{EntryTexts, Record, entries_of, crossref, ent
 use Rattle.bib_spec.specs.Pieces.{Piece, Chunk, Kept, Replaced, pieces_of_chunks}
 use Rattle.bib_spec.specs.MadeKeys.{new_keys}
 use Rattle.part_spec.specs.Parts.{holds, any_part}
-use Rattle.edit_spec.specs.Edits.{NewEntry, Edit, SetField, DropField, AddEntry, RemoveEntry, MoveEntry, RenameKey, RenameMacro, InlineMacro, IntroduceMacro, RegenerateKeys, AddMany, SetType, UndefineMacro, RenameField, DefineMacro, SetMacro, leaving, defines, is_entry, new_row, line_end, item_of, in_line, in_braces, next_number, key_for, name_renamed, use_renamed, use_inlined, text_of_macro, definition_as, definition_of, part_introduced, definitions_end}
+use Rattle.edit_spec.specs.Edits.{NewEntry, Edit, SetField, DropField, AddEntry, RemoveEntry, MoveEntry, RenameKey, RenameMacro, InlineMacro, IntroduceMacro, RegenerateKeys, AddMany, SetType, UndefineMacro, RenameField, DefineMacro, SetMacro, Which, EntryChange, SetsField, DropsField, RenamesFields, SetsType, RenamesKey, Removes, Moves, DefinitionChange, SetsValue, Undefines, ChangeEntry, ChangeDefinition, number_of, item_meant, entry_meant, definition_meant, leaving, defines, is_entry, new_row, line_end, item_of, in_line, in_braces, next_number, key_for, name_renamed, use_renamed, use_inlined, text_of_macro, definition_as, definition_of, part_introduced, definitions_end}
 
 -- ---- trees
 
@@ -222,6 +222,63 @@ moved key position items item =
     let groups = groups_without (is_entry key) items in
     groups.0 ++ flat_map (λ chunks. chunks) (insert groups.1 position (inserted (in_line item.tree)))
 
+-- ---- one of several
+
+-- the items in chunks: kept up to item n, and from there on as this function gives them
+abbrev pub chunks_from : ℕ → (Item → List Item → List Chunk) → List Item → List Chunk
+chunks_from n change [] = []
+chunks_from zero change (item ∷ items) = change item items
+chunks_from (suc n) change (item ∷ items) = kept_item item ∷ chunks_from n change items
+
+-- The white space before the rows, and the rows: the first k rows of this name are kept, and the rows after them are as this
+-- function gives them.
+abbrev pub later_rows_chunked : Text → ℕ → (Text → List Row → List Chunk) → Text → List Row → List Chunk
+later_rows_chunked name zero change before rows = change before rows
+later_rows_chunked name (suc k) change before [] = Kept before ∷ []
+later_rows_chunked name (suc k) change before (row ∷ rows) =
+    Kept before ∷ Kept (row_start row) ∷ Kept (value_bytes row.assignment.value)
+    ∷ later_rows_chunked name (if same row.assignment.name name then k else suc k) change row.assignment.space_after rows
+
+-- an entry in chunks, where this field is set
+abbrev pub one_field_set : Which → Value → Entry → List Chunk
+one_field_set field value e =
+    entry_chunks (Kept e.key) (later_rows_chunked field.name (number_of field) (field_set field.name value) e.space_after_key e.rows) e
+
+-- an entry in chunks, where this field is removed
+abbrev pub one_field_dropped : Which → Entry → List Chunk
+one_field_dropped field e =
+    entry_chunks (Kept e.key) (later_rows_chunked field.name (number_of field) (field_dropped field.name) e.space_after_key e.rows) e
+
+-- One list of chunks for each remaining item, where the body of item n is removed. Its chunks join the list before it; if it was
+-- the first item, they are `.0`.
+abbrev pub groups_without_item : ℕ → List Item → List Chunk × List (List Chunk)
+groups_without_item n [] = ([], [])
+groups_without_item zero (item ∷ items) = (Replaced (tree_bytes item.tree) [] ∷ Kept item.trail ∷ [], map (λ kept. kept_item kept ∷ []) items)
+groups_without_item (suc n) (item ∷ items) =
+    let rest = groups_without_item n items in
+    ([], (kept_item item ∷ rest.0) ∷ rest.1)
+
+-- item n is taken out, and put in again at this position among the other items
+abbrev pub item_moved : ℕ → ℕ → List Item → Item → List Chunk
+item_moved n position items item =
+    let groups = groups_without_item n items in
+    groups.0 ++ flat_map (λ chunks. chunks) (insert groups.1 position (inserted (in_line item.tree)))
+
+-- the items in chunks, where item n, which is the entry that is meant, is changed
+abbrev pub entry_chunked : Which → EntryChange → Reading → ℕ → List Chunk
+entry_chunked key (SetsField field value) db n = chunks_from n (entry_as (one_field_set field value)) db.items
+entry_chunked key (DropsField field) db n = chunks_from n (entry_as (one_field_dropped field)) db.items
+entry_chunked key (RenamesFields from to) db n = chunks_from n (entry_as (names_replaced from to)) db.items
+entry_chunked key (SetsType kind_name) db n = chunks_from n (entry_as (type_replaced kind_name)) db.items
+entry_chunked key (RenamesKey to) db n = key_chunks (key_for (entry_meant key (entries_of db)) to) db
+entry_chunked key Removes db n = chunks_from n without_body db.items
+entry_chunked key (Moves position) db n = option_map_or (item_moved n position db.items) (slice_get db.items n) (kept_items db.items)
+
+-- the items in chunks, where item n, which is a definition, is changed
+abbrev pub definition_chunked : DefinitionChange → ℕ → List Item → List Chunk
+definition_chunked (SetsValue value) n items = chunks_from n (λ item items. body_and_rest (definition_chunks value item.tree) item items) items
+definition_chunked Undefines n items = chunks_from n without_body items
+
 -- ---- edits
 
 -- the bytes that are put after the last item, if there are new entries
@@ -256,6 +313,9 @@ changed_items key_base db (RenameField from to (Some key)) = chunks_from_first (
 changed_items key_base db (DefineMacro name value) = chunks_after (definitions_end db.items) (DefinitionTree (definition_as name value)) db.items
 changed_items key_base db (SetMacro name value) =
     chunks_from_first (defines name) (λ item items. body_and_rest (definition_chunks value item.tree) item items) db.items
+changed_items key_base db (ChangeEntry key change) = option_map_or (entry_chunked key change db) (item_meant key db.items) (kept_items db.items)
+changed_items key_base db (ChangeDefinition name k change) =
+    option_map_or (λ n. definition_chunked change n db.items) (definition_meant name k db.items) (kept_items db.items)
 
 -- the file in chunks, as the edit keeps and replaces them
 abbrev pub chunks : (Record → Text) → Reading → Edit → List Chunk

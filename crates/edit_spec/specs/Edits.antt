@@ -1,5 +1,5 @@
 -- What each edit makes of a database, and when it is refused.
-use Rattle.std.specs.Prelude.{◌≡◌, ◌<◌, ◌⊎◌, ℕ, zero, suc, ◌-◌, Bool, true, false, not, ◌&&◌, ◌||◌, ◌==◌, nat_lt, List, [], ◌∷◌, ◌++◌, Option, Some, None, is_some, unwrap_or, length, insert, if◌then◌else◌, bytes_eq, codes, map, find, scan, count_by, option_and_then, slice_get, All}
+use Rattle.std.specs.Prelude.{◌≡◌, ◌<◌, ◌≤◌, ◌⊎◌, ℕ, zero, suc, ◌-◌, Bool, true, false, not, ◌&&◌, ◌||◌, ◌==◌, nat_lt, nat_le, List, [], ◌∷◌, ◌++◌, Option, Some, None, is_some, is_none, unwrap_or, length, drop, insert, if◌then◌else◌, bytes_eq, codes, map, find, scan, count_by, option_map, option_and_then, slice_get, All}
 use Rattle.std.specs.List.{flat_map, list_any, list_all}
 use Rattle.std.specs.Option.{option_map_or}
 use Rattle.bib_spec.specs.Bytes.{name_limit, file_limit, close_paren}
@@ -19,6 +19,36 @@ pub record NewEntry : Type 0 where
   pub kind_name : Text
   pub key : Text
   pub fields : List (Text × Value)
+
+-- Which is meant of those that have the same name, folded: the one with this number among them, from 0, in file order. If there
+-- is no number, there must be only one.
+pub record Which : Type 0 where
+  pub name : Text
+  pub number : Option ℕ
+
+-- what an edit makes of one entry among several that have its key
+pub data EntryChange : Type 0 where
+  -- this field gets this value
+  SetsField : Which → Value → EntryChange
+  -- this field is removed
+  DropsField : Which → EntryChange
+  -- each field of the first name gets the second name
+  RenamesFields : Text → Text → EntryChange
+  -- the entry gets this type
+  SetsType : Text → EntryChange
+  -- the entry gets this key, and each crossref that names the entry names it by the new key
+  RenamesKey : Text → EntryChange
+  -- the entry is removed
+  Removes : EntryChange
+  -- the entry is taken out, and put in again before this item of the others
+  Moves : ℕ → EntryChange
+
+-- what an edit makes of one definition among several of the same macro
+pub data DefinitionChange : Type 0 where
+  -- the definition gets this value
+  SetsValue : Value → DefinitionChange
+  -- the definition is removed, which nothing uses
+  Undefines : DefinitionChange
 
 -- What a caller may request. A key in an edit names the first entry that has the key, folded.
 pub data Edit : Type 0 where
@@ -54,6 +84,10 @@ pub data Edit : Type 0 where
   DefineMacro : Text → Value → Edit
   -- the definition of the macro gets this value: name, value
   SetMacro : Text → Value → Edit
+  -- this one of the entries with the same key is changed
+  ChangeEntry : Which → EntryChange → Edit
+  -- of the macro's definitions, the one with this number, from 0, is changed
+  ChangeDefinition : Text → ℕ → DefinitionChange → Edit
 
 -- The value has these bytes, and it is one of the grammar if any value with these bytes is. A caller gives bytes, and
 -- whether they are a value is decided together with all other reasons to refuse.
@@ -470,6 +504,94 @@ definition_to value (EntryTree e) = EntryTree e
 abbrev pub set_macro : Text → Value → Reading → Reading
 set_macro name value db = record db { items = from_first (defines name) (with_first_tree (definition_to value)) db.items }
 
+-- ---- one of several
+
+-- the number of the member that has the number k among those that pass the test; both count from 0
+abbrev pub nth_of : {X : Type 0} → (X → Bool) → ℕ → List X → Option ℕ
+nth_of test k [] = None
+nth_of test zero (x ∷ xs) = if test x then Some 0 else option_map suc (nth_of test zero xs)
+nth_of test (suc k) (x ∷ xs) = option_map suc (nth_of test (if test x then k else suc k) xs)
+
+-- the number among those that have the name
+abbrev pub number_of : Which → ℕ
+number_of which = unwrap_or which.number 0
+
+-- the number, among the items, of the entry that is meant
+abbrev pub item_meant : Which → List Item → Option ℕ
+item_meant key items = nth_of (λ item. is_entry key.name item.tree) (number_of key) items
+
+-- the number, among the entries, of the entry that is meant
+abbrev pub entry_meant : Which → List EntryTexts → Option ℕ
+entry_meant key entries = nth_of (is_named key.name) (number_of key) (keys_of entries)
+
+-- the number, among the items, of the definition that is meant
+abbrev pub definition_meant : Text → ℕ → List Item → Option ℕ
+definition_meant name k items = nth_of (λ item. defines name item.tree) k items
+
+-- the items, with the tree of item n changed
+abbrev pub with_tree_at : ℕ → (Tree → Tree) → List Item → List Item
+with_tree_at n change [] = []
+with_tree_at zero change (item ∷ items) = record item { tree = change item.tree } ∷ items
+with_tree_at (suc n) change (item ∷ items) = item ∷ with_tree_at n change items
+
+-- the front and the items without item n: its body is removed, and its trail joins the text before it
+abbrev pub without_item : ℕ → Text → List Item → Reading
+without_item n front [] = record { front = front; items = [] }
+without_item zero front (item ∷ items) = record { front = front ++ item.trail; items = items }
+without_item (suc n) front (item ∷ items) =
+    let rest = without_item n item.trail items in
+    record { front = front; items = record item { trail = rest.front } ∷ rest.items }
+
+-- The white space before the rows, and the rows, with a change of the rows after the first k rows of this name.
+abbrev pub with_later_rows : Text → ℕ → (Text → List Row → Text × List Row) → Text → List Row → Text × List Row
+with_later_rows name zero change before rows = change before rows
+with_later_rows name (suc k) change before [] = (before, [])
+with_later_rows name (suc k) change before (row ∷ rows) =
+    let rest = with_later_rows name (if same row.assignment.name name then k else suc k) change row.assignment.space_after rows in
+    (before, row_before rest.0 row ∷ rest.1)
+
+-- an entry with this field set
+abbrev pub entry_with_one_field : Which → Value → Entry → Entry
+entry_with_one_field field value e =
+    entry_with_rows (with_later_rows field.name (number_of field) (with_field field.name value) e.space_after_key e.rows) e
+
+-- an entry without this field
+abbrev pub entry_without_one_field : Which → Entry → Entry
+entry_without_one_field field e =
+    entry_with_rows (with_later_rows field.name (number_of field) (without_field field.name) e.space_after_key e.rows) e
+
+-- item n, which is an entry, changed
+abbrev pub with_entry_at : ℕ → (Entry → Entry) → Reading → Reading
+with_entry_at n change db = record db { items = with_tree_at n (of_entry change) db.items }
+
+-- item n is taken out, and put in again at this position of the others
+abbrev pub move_item : ℕ → ℕ → Reading → Reading
+move_item n position db =
+    option_map_or (λ item. with_item position (in_line item.tree) (without_item n db.front db.items)) (slice_get db.items n) db
+
+-- item n, which is the entry that is meant, changed
+abbrev pub entry_changed : Which → EntryChange → ℕ → Reading → Reading
+entry_changed key (SetsField field value) n db = with_entry_at n (entry_with_one_field field value) db
+entry_changed key (DropsField field) n db = with_entry_at n (entry_without_one_field field) db
+entry_changed key (RenamesFields from to) n db = with_entry_at n (entry_renamed from to) db
+entry_changed key (SetsType kind_name) n db = with_entry_at n (entry_with_type kind_name) db
+entry_changed key (RenamesKey to) n db = with_keys (key_for (entry_meant key (entries_of db)) to) db
+entry_changed key Removes n db = without_item n db.front db.items
+entry_changed key (Moves position) n db = move_item n position db
+
+-- the entry that is meant, changed
+abbrev pub change_entry : Which → EntryChange → Reading → Reading
+change_entry key change db = option_map_or (λ n. entry_changed key change n db) (item_meant key db.items) db
+
+-- item n, which is a definition, changed
+abbrev pub definition_changed : DefinitionChange → ℕ → Reading → Reading
+definition_changed (SetsValue value) n db = record db { items = with_tree_at n (definition_to value) db.items }
+definition_changed Undefines n db = without_item n db.front db.items
+
+-- the definition that is meant, changed
+abbrev pub change_definition : Text → ℕ → DefinitionChange → Reading → Reading
+change_definition name k change db = option_map_or (λ n. definition_changed change n db) (definition_meant name k db.items) db
+
 -- ---- what an edit makes
 
 -- the database after an edit; a made key begins with what `key_base` makes of the record
@@ -490,6 +612,8 @@ edited key_base db (UndefineMacro name) = undefine_macro name db
 edited key_base db (RenameField from to key) = rename_field from to key db
 edited key_base db (DefineMacro name value) = define_macro name value db
 edited key_base db (SetMacro name value) = set_macro name value db
+edited key_base db (ChangeEntry key change) = change_entry key change db
+edited key_base db (ChangeDefinition name k change) = change_definition name k change db
 
 -- ---- what an edit is given
 
@@ -498,6 +622,7 @@ abbrev pub given_keys : Edit → List Text
 given_keys (AddEntry position new) = new.key ∷ []
 given_keys (AddMany news) = map (λ new. new.key) news
 given_keys (RenameKey from to) = to ∷ []
+given_keys (ChangeEntry key (RenamesKey to)) = to ∷ []
 given_keys other = []
 
 -- the names of a new entry's fields
@@ -521,11 +646,16 @@ given_names (UndefineMacro name) = name ∷ []
 given_names (RenameField from to key) = from ∷ to ∷ []
 given_names (DefineMacro name value) = name ∷ []
 given_names (SetMacro name value) = name ∷ []
+given_names (ChangeEntry key (SetsField field value)) = field.name ∷ []
+given_names (ChangeEntry key (DropsField field)) = field.name ∷ []
+given_names (ChangeEntry key (RenamesFields from to)) = from ∷ to ∷ []
+given_names (ChangeDefinition name k change) = name ∷ []
 given_names other = []
 
 -- no `crossref` gets another name, and no field the name `crossref`: parents would come or go
 abbrev pub leaves_crossref : Edit → Bool
 leaves_crossref (RenameField from to key) = not (same from crossref) && not (same to crossref)
+leaves_crossref (ChangeEntry key (RenamesFields from to)) = not (same from crossref) && not (same to crossref)
 leaves_crossref other = true
 
 -- the types of entries in the edit
@@ -533,6 +663,7 @@ abbrev pub given_types : Edit → List Text
 given_types (AddEntry position new) = new.kind_name ∷ []
 given_types (AddMany news) = map (λ new. new.kind_name) news
 given_types (SetType key kind_name) = kind_name ∷ []
+given_types (ChangeEntry key (SetsType kind_name)) = kind_name ∷ []
 given_types other = []
 
 -- the values in the edit; a text that gets a name is put in braces
@@ -543,6 +674,8 @@ given_values (AddMany news) = flat_map field_values news
 given_values (IntroduceMacro name text) = in_braces text ∷ []
 given_values (DefineMacro name value) = value ∷ []
 given_values (SetMacro name value) = value ∷ []
+given_values (ChangeEntry key (SetsField field value)) = value ∷ []
+given_values (ChangeDefinition name k (SetsValue value)) = value ∷ []
 given_values other = []
 
 -- ---- what an edit addresses
@@ -572,9 +705,41 @@ would_repeat from to entry = has_field from entry && nat_lt 1 (fields_then from 
 abbrev pub definitions : Text → Reading → ℕ
 definitions name db = count_by (λ item. defines name item.tree) db.items
 
+-- the texts of the entry that is meant, if there is such an entry
+abbrev pub texts_meant : Which → Reading → Option EntryTexts
+texts_meant key db = option_and_then (slice_get (entries_of db)) (entry_meant key (entries_of db))
+
+-- there are several of the name, this many, and no number says which is meant
+abbrev pub is_unclear : Which → ℕ → Bool
+is_unclear which count = is_none which.number && nat_lt 1 count
+
+-- the entry has no such field to be changed; a field that gets a value without a number may be a new one
+abbrev pub lacks : EntryChange → EntryTexts → Bool
+lacks (SetsField field value) entry = nat_le (count_by (has_name field.name) entry.fields) (number_of field) && is_some field.number
+lacks (DropsField field) entry = nat_le (count_by (has_name field.name) entry.fields) (number_of field)
+lacks (RenamesFields from to) entry = not (has_field from entry)
+lacks other entry = false
+
+-- the entry has several fields of the name, or would have several
+abbrev pub repeats : EntryChange → EntryTexts → Bool
+repeats (SetsField field value) entry = is_unclear field (count_by (has_name field.name) entry.fields)
+repeats (DropsField field) entry = is_unclear field (count_by (has_name field.name) entry.fields)
+repeats (RenamesFields from to) entry = would_repeat from to entry
+repeats other entry = false
+
+-- an item of these up to the next definition of the macro uses it; in its own definition a macro stands for nothing
+abbrev pub is_used_before_next : Text → List Item → Bool
+is_used_before_next name [] = false
+is_used_before_next name (item ∷ items) = not (defines name item.tree) && (any_part (uses name) item.tree || is_used_before_next name items)
+
+-- a use sees the definition that is item n
+abbrev pub is_seen_from : Text → ℕ → List Item → Bool
+is_seen_from name n items = is_used_before_next name (drop (suc n) items)
+
 -- the highest position at which an item can be put; a moved item is not counted
 abbrev pub last_position : Reading → Edit → ℕ
 last_position db (MoveEntry key position) = if is_some (entry_named (entries_of db) key) then length db.items - 1 else length db.items
+last_position db (ChangeEntry key (Moves position)) = if is_some (entry_meant key (entries_of db)) then length db.items - 1 else length db.items
 last_position db other = length db.items
 
 -- two of the names are the same, folded
@@ -585,6 +750,10 @@ has_same (name ∷ names) = list_any (same name) names || has_same names
 -- the entry is another entry's target
 abbrev pub IsReferred : Text → List EntryTexts → Type 0
 IsReferred key entries = (n m : ℕ) × (entry_named entries key ≡ Some m) × (parent entries n ≡ Some m)
+
+-- the entry that is meant is another entry's target
+abbrev pub IsParentMeant : Which → List EntryTexts → Type 0
+IsParentMeant key entries = (n m : ℕ) × (entry_meant key entries ≡ Some m) × (parent entries n ≡ Some m)
 
 -- no command begins in the text before, between or after the items
 pub record HasCleanTexts (db : Reading) : Type 0 where
@@ -640,6 +809,7 @@ edit_fault_number TextTooLong = 8
 abbrev pub IsPositionTooHigh : Reading → Edit → Type 0
 IsPositionTooHigh db (AddEntry position new) = last_position db (AddEntry position new) < position
 IsPositionTooHigh db (MoveEntry key position) = last_position db (MoveEntry key position) < position
+IsPositionTooHigh db (ChangeEntry key (Moves position)) = last_position db (ChangeEntry key (Moves position)) < position
 IsPositionTooHigh db other = ⊥
 
 -- what the edit addresses is not there; no entry is found by an empty key, and a month alone is no definition
@@ -657,6 +827,8 @@ IsMissing db (UndefineMacro name) = definitions name db ≡ 0
 IsMissing db (RenameField from to None) = list_any (has_field from) (entries_of db) ≡ false
 IsMissing db (RenameField from to (Some key)) = fields_named key from db ≡ 0
 IsMissing db (SetMacro name value) = definitions name db ≡ 0
+IsMissing db (ChangeEntry key change) = option_map_or (lacks change) (texts_meant key db) true ≡ true
+IsMissing db (ChangeDefinition name k change) = definitions name db ≤ k
 IsMissing db other = ⊥
 
 -- what the edit addresses is there twice, or a new entry has a field twice, or an entry would have a renamed field twice
@@ -677,6 +849,7 @@ IsAmbiguous db (RenameField from to (Some key)) =
     (1 < holders key db)
     ⊎ (option_map_or (would_repeat from to) (option_and_then (slice_get (entries_of db)) (entry_named (entries_of db) key)) false ≡ true)
 IsAmbiguous db (SetMacro name value) = 1 < definitions name db
+IsAmbiguous db (ChangeEntry key change) = (is_unclear key (holders key.name db) || option_map_or (repeats change) (texts_meant key db) false) ≡ true
 IsAmbiguous db other = ⊥
 
 -- The new key is the key of another entry or of another new entry, or the text of a dangling crossref. That last is a reason
@@ -687,6 +860,8 @@ IsKeyInUse db (AddMany news) =
     (has_same (map (λ new. new.key) news) || list_any (λ new. list_any (same new.key) (keys_of (entries_of db))) news) ≡ true
 IsKeyInUse db (RenameKey from to) =
     (list_any (λ key. same to key && not (is_named from key)) (keys_of (entries_of db)) || list_any (same to) (dangling_texts (entries_of db))) ≡ true
+IsKeyInUse db (ChangeEntry key (RenamesKey to)) =
+    (list_any (same to) (keys_of (entries_of db)) || list_any (same to) (dangling_texts (entries_of db))) ≡ true
 IsKeyInUse db other = ⊥
 
 -- The new name of a macro is in use; a change of case alone is no new name. A definition may give a text to a name that is used
@@ -706,6 +881,11 @@ MergesText db (RemoveEntry key) = HasCleanTexts (remove_entry key db) → ⊥
 MergesText db (MoveEntry key position) = HasCleanTexts (remove_entry key db) → ⊥
 MergesText db (InlineMacro name) = HasCleanTexts (inline_macro name db) → ⊥
 MergesText db (UndefineMacro name) = HasCleanTexts (undefine_macro name db) → ⊥
+MergesText db (ChangeEntry key (DropsField field)) =
+    option_map_or (λ item. tree_ends_in_key item.tree) (option_and_then (slice_get (change_entry key (DropsField field) db).items) (item_meant key db.items)) false ≡ true
+MergesText db (ChangeEntry key Removes) = HasCleanTexts (change_entry key Removes db) → ⊥
+MergesText db (ChangeEntry key (Moves position)) = HasCleanTexts (change_entry key Removes db) → ⊥
+MergesText db (ChangeDefinition name k Undefines) = HasCleanTexts (change_definition name k Undefines db) → ⊥
 MergesText db other = ⊥
 
 -- The edit is refused for this reason. (dialect)
@@ -720,6 +900,9 @@ Refuses key_base KeyInUse db e = IsKeyInUse db e
 Refuses key_base NameInUse db e = IsNameInUse db e
 Refuses key_base Referred db (RemoveEntry key) = IsReferred key (entries_of db)
 Refuses key_base Referred db (UndefineMacro name) = is_seen name db.items ≡ true
+Refuses key_base Referred db (ChangeEntry key Removes) = IsParentMeant key (entries_of db)
+Refuses key_base Referred db (ChangeDefinition name k Undefines) =
+    option_map_or (λ n. is_seen_from name n db.items) (definition_meant name k db.items) false ≡ true
 Refuses key_base Referred db other = ⊥
 Refuses key_base WouldMerge db e = MergesText db e
 Refuses key_base FileTooLong db e = file_limit < length (bytes_of (edited key_base db e))

@@ -10,7 +10,7 @@ use Rattle.bib_spec.specs.Texts.{is_empty, words, field_text, seen}
 use Rattle.bib_spec.specs.Records.{Record, entries_of, preambles_of, keys_of, crossref_text, dangling_texts, is_repeated, target, parent, expanded, listed, unknown}
 use Rattle.bib_spec.specs.Pieces.{Piece}
 use Rattle.bib_spec.specs.MadeKeys.{free_key, IsKeyBase}
-use Rattle.edit_spec.specs.Edits.{NewEntry, Edit, SetField, DropField, AddEntry, RemoveEntry, MoveEntry, RenameKey, RenameMacro, InlineMacro, IntroduceMacro, RegenerateKeys, AddMany, DefineMacro, SetMacro, edited, Refuses, IsAccepted, BadKey, BadName, BadValue, BadPosition, NotFound, Ambiguous, KeyInUse, NameInUse, Referred, WouldMerge}
+use Rattle.edit_spec.specs.Edits.{NewEntry, Edit, SetField, DropField, AddEntry, RemoveEntry, MoveEntry, RenameKey, RenameMacro, InlineMacro, IntroduceMacro, RegenerateKeys, AddMany, DefineMacro, SetMacro, Which, SetsField, DropsField, RenamesFields, SetsType, RenamesKey, Removes, Moves, SetsValue, Undefines, ChangeEntry, ChangeDefinition, edited, Refuses, IsAccepted, BadKey, BadName, BadValue, BadPosition, NotFound, Ambiguous, KeyInUse, NameInUse, Referred, WouldMerge}
 use Rattle.edit_spec.specs.EditChunks.{pieces_of}
 use Rattle.edit_spec.specs.Laws.{dependents}
 
@@ -101,6 +101,14 @@ texts_at depth db n = option_map_or (λ r. map (λ f. f.1) r.fields) (expanded d
 -- the names and field texts of entry n at this depth
 abbrev pub fields_of : ℕ → Reading → ℕ → List (Text × Text)
 fields_of depth db n = option_map_or (λ r. r.fields) (expanded depth (entries_of db) n) []
+
+-- the one with this number of those that have the name
+abbrev pub nth : Text → ℕ → Which
+nth name number = record { name = name; number = Some number }
+
+-- the only one of the name
+abbrev pub lone : Text → Which
+lone name = record { name = name; number = None }
 
 -- the file after an edit
 abbrev pub file_after : Reading → Edit → Text
@@ -223,6 +231,59 @@ pub record MacroGetsValue : Type 0 where
   pub dependents_are : dependents (codes "a" ∷ []) with_remark.items ≡ codes "b" ∷ codes "a" ∷ []
   pub twice : Refuses author_year Ambiguous defined_twice (SetMacro (codes "p") (only (Digits (codes "1"))))
   pub month : Refuses author_year NotFound with_remark (SetMacro (codes "may") (only (Digits (codes "5"))))
+
+-- ---- one of several
+
+-- three entries with the key `b`, in the first of which the field `t` is there three times, and a crossref that names `b`
+abbrev pub thrice : Reading
+thrice = file (
+    misc (codes "b") (tight (codes "t") (only (Braced (codes "A"))) ∷ tight (codes "T") (only (Braced (codes "B"))) ∷ tight (codes "t") (only (Braced (codes "C"))) ∷ [])
+    ∷ misc (codes "B") (tight (codes "t") (only (Braced (codes "D"))) ∷ [])
+    ∷ misc (codes "b") []
+    ∷ misc (codes "a") (tight (codes "crossref") (only (Braced (codes "b"))) ∷ []) ∷ [])
+
+-- A number says which of several entries is meant, or which of several fields, in file order. A crossref names the first entry
+-- that has its key, so no crossref follows a later one to its new key.
+pub record OneOfSeveralChanges : Type 0 where
+  pub bytes : bytes_of thrice ≡ codes "@misc{b,t={A},T={B},t={C}}@misc{B,t={D}}@misc{b}@misc{a,crossref={b}}"
+  pub removed : file_after thrice (ChangeEntry (nth (codes "b") 1) Removes) ≡ codes "@misc{b,t={A},T={B},t={C}}@misc{b}@misc{a,crossref={b}}"
+  pub removed_pieces : pieces thrice (ChangeEntry (nth (codes "b") 1) Removes) ≡ record { place = 26; old = codes "@misc{B,t={D}}"; new = [] } ∷ []
+  pub field_dropped : file_after thrice (ChangeEntry (nth (codes "b") 0) (DropsField (nth (codes "t") 1))) ≡ codes "@misc{b,t={A},t={C}}@misc{B,t={D}}@misc{b}@misc{a,crossref={b}}"
+  pub field_set : file_after thrice (ChangeEntry (nth (codes "b") 0) (SetsField (nth (codes "t") 2) (only (Digits (codes "1")))))
+      ≡ codes "@misc{b,t={A},T={B},t=1}@misc{B,t={D}}@misc{b}@misc{a,crossref={b}}"
+  pub field_pieces : pieces thrice (ChangeEntry (nth (codes "b") 0) (SetsField (nth (codes "t") 2) (only (Digits (codes "1"))))) ≡ record { place = 22; old = codes "{C}"; new = codes "1" } ∷ []
+  pub field_added : file_after thrice (ChangeEntry (nth (codes "b") 1) (SetsField (lone (codes "y")) (only (Digits (codes "2")))))
+      ≡ codes "@misc{b,t={A},T={B},t={C}}@misc{B,t={D},\n  y = 2}@misc{b}@misc{a,crossref={b}}"
+  pub fields_renamed : file_after thrice (ChangeEntry (nth (codes "b") 1) (RenamesFields (codes "t") (codes "u")))
+      ≡ codes "@misc{b,t={A},T={B},t={C}}@misc{B,u={D}}@misc{b}@misc{a,crossref={b}}"
+  pub typed : file_after thrice (ChangeEntry (nth (codes "b") 2) (SetsType (codes "book"))) ≡ codes "@misc{b,t={A},T={B},t={C}}@misc{B,t={D}}@book{b}@misc{a,crossref={b}}"
+  pub later_key : file_after thrice (ChangeEntry (nth (codes "b") 1) (RenamesKey (codes "c"))) ≡ codes "@misc{b,t={A},T={B},t={C}}@misc{c,t={D}}@misc{b}@misc{a,crossref={b}}"
+  pub first_key : file_after thrice (ChangeEntry (nth (codes "b") 0) (RenamesKey (codes "c"))) ≡ codes "@misc{c,t={A},T={B},t={C}}@misc{B,t={D}}@misc{b}@misc{a,crossref={c}}"
+  pub moved : file_after thrice (ChangeEntry (nth (codes "b") 1) (Moves 3)) ≡ codes "@misc{b,t={A},T={B},t={C}}@misc{b}@misc{a,crossref={b}}@misc{B,t={D}}\n"
+  pub no_fourth : Refuses author_year NotFound thrice (ChangeEntry (nth (codes "b") 3) Removes)
+  pub no_field : Refuses author_year NotFound thrice (ChangeEntry (nth (codes "b") 1) (SetsField (nth (codes "t") 1) (only (Digits (codes "1")))))
+  pub no_number : Refuses author_year Ambiguous thrice (ChangeEntry (lone (codes "b")) (DropsField (nth (codes "t") 1)))
+  pub no_field_number : Refuses author_year Ambiguous thrice (ChangeEntry (nth (codes "b") 0) (DropsField (lone (codes "t"))))
+  pub taken : Refuses author_year KeyInUse thrice (ChangeEntry (nth (codes "b") 1) (RenamesKey (codes "A")))
+  pub taken_by_others : Refuses author_year KeyInUse thrice (ChangeEntry (nth (codes "b") 1) (RenamesKey (codes "b")))
+  pub parent : Refuses author_year Referred thrice (ChangeEntry (nth (codes "b") 0) Removes)
+
+-- the macro `m` is defined twice; its first definition is used by none, and its second by an entry
+abbrev pub first_unused : Reading
+first_unused = file (
+    string (codes "m") (only (Braced (codes "A"))) ∷ string (codes "M") (both (Macro (codes "m")) (Braced (codes "B")))
+    ∷ misc (codes "a") (tight (codes "t") (only (Macro (codes "m"))) ∷ []) ∷ [])
+
+-- One of several definitions of a macro gets a value, or is removed if no use sees it. A use sees the last definition before it, and
+-- in its own definition a macro stands for nothing.
+pub record OneDefinitionChanges : Type 0 where
+  pub set : file_after defined_twice (ChangeDefinition (codes "p") 1 (SetsValue (only (Digits (codes "1"))))) ≡ codes "@string{p={A}}@misc{a,t=p}@string{p=1}@misc{b,t=p}"
+  pub set_pieces : pieces defined_twice (ChangeDefinition (codes "p") 1 (SetsValue (only (Digits (codes "1"))))) ≡ record { place = 36; old = codes "{B}"; new = codes "1" } ∷ []
+  pub undefined : file_after first_unused (ChangeDefinition (codes "m") 0 Undefines) ≡ codes "@string{M=m # {B}}@misc{a,t=m}"
+  pub unseen : Refuses author_year Referred first_unused (ChangeDefinition (codes "m") 0 Undefines) → ⊥
+  pub seen_first : Refuses author_year Referred defined_twice (ChangeDefinition (codes "p") 0 Undefines)
+  pub seen_last : Refuses author_year Referred first_unused (ChangeDefinition (codes "m") 1 Undefines)
+  pub no_third : Refuses author_year NotFound defined_twice (ChangeDefinition (codes "p") 2 Undefines)
 
 -- a use of `m` before its definition, and one after it
 abbrev pub used_before : Reading

@@ -4,3 +4,4 @@ pub mod Laws
 pub mod OtherLaws
 pub mod Examples
 pub mod EditLaws
+pub mod OneLaws

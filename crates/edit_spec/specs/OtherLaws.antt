@@ -8,7 +8,7 @@ use Rattle.bib_spec.specs.Reading.{Item, Reading}
 use Rattle.bib_spec.specs.MadeKeys.{new_keys}
 use Rattle.bib_spec.specs.Records.{EntryTexts, Record, entries_of, preambles_of, crossref, entry_named, target, parent, dangling_texts, expanded}
 use Rattle.part_spec.specs.Parts.{uses, holds, any_part}
-use Rattle.edit_spec.specs.Edits.{NewEntry, Edit, SetField, DropField, AddEntry, RemoveEntry, MoveEntry, RenameKey, RenameMacro, InlineMacro, IntroduceMacro, RegenerateKeys, AddMany, SetType, UndefineMacro, RenameField, DefineMacro, SetMacro, given_keys, defines, is_entry, line_end, in_line, definitions_end, edited, IsAccepted}
+use Rattle.edit_spec.specs.Edits.{NewEntry, Edit, SetField, DropField, AddEntry, RemoveEntry, MoveEntry, RenameKey, RenameMacro, InlineMacro, IntroduceMacro, RegenerateKeys, AddMany, SetType, UndefineMacro, RenameField, DefineMacro, SetMacro, Which, EntryChange, RenamesKey, Removes, Moves, DefinitionChange, SetsValue, Undefines, ChangeEntry, ChangeDefinition, entry_meant, item_meant, definition_meant, given_keys, defines, is_entry, line_end, in_line, definitions_end, edited, IsAccepted}
 use Rattle.edit_spec.specs.Laws.{is_after, is_reached}
 
 -- ---- numbers
@@ -84,12 +84,29 @@ number_of_first test (item ∷ items) = if test item.tree then 0 else suc (numbe
 abbrev pub is_first : (Tree → Bool) → List Item → ℕ → Bool
 is_first test items n = number_of_first test items == n
 
+-- the number is the one that was found
+abbrev pub is_meant : Option ℕ → ℕ → Bool
+is_meant found n = option_map_or (λ m. m == n) found false
+
+-- the change takes the entry away, or moves it
+abbrev pub is_taken_out : EntryChange → Bool
+is_taken_out Removes = true
+is_taken_out (Moves position) = true
+is_taken_out other = false
+
+-- the change takes the definition away
+abbrev pub is_removed : DefinitionChange → Bool
+is_removed Undefines = true
+is_removed (SetsValue value) = false
+
 -- the edit takes item n away, or moves it
 abbrev pub is_gone : Reading → Edit → ℕ → Bool
 is_gone db (RemoveEntry key) n = is_first (is_entry key) db.items n
 is_gone db (MoveEntry key position) n = is_first (is_entry key) db.items n
 is_gone db (InlineMacro name) n = is_first (defines name) db.items n
 is_gone db (UndefineMacro name) n = is_first (defines name) db.items n
+is_gone db (ChangeEntry key change) n = is_taken_out change && is_meant (item_meant key db.items) n
+is_gone db (ChangeDefinition name k change) n = is_removed change && is_meant (definition_meant name k db.items) n
 is_gone db other n = false
 
 -- the item is an entry
@@ -127,6 +144,13 @@ abbrev pub has_its_keys : (ℕ → Option Text) → List EntryTexts → ℕ → 
 has_its_keys new entries n (EntryTree e) = bytes_eq (unwrap_or (new n) e.key) e.key && names_already (option_and_then new (target entries n)) e.rows
 has_its_keys new entries n other = true
 
+-- The change of the entry that is meant replaces something in the body of item n. A new key is also written into the crossrefs that
+-- name the entry.
+abbrev pub is_changed_by : Which → EntryChange → Reading → ℕ → Bool
+is_changed_by key (RenamesKey to) db n =
+    passes is_any_entry db.items n && is_or_refers_to (entries_of db) (entry_meant key (entries_of db)) (entries_before n db)
+is_changed_by key change db n = not (is_taken_out change) && is_meant (item_meant key db.items) n
+
 -- the edit replaces something in the body of item n; a made key begins with what `key_base` makes of the record
 abbrev pub is_changed : (Record → Text) → Reading → Edit → ℕ → Bool
 is_changed key_base db (SetField key name value) n = is_first (is_entry key) db.items n
@@ -142,7 +166,25 @@ is_changed key_base db (SetType key kind_name) n = is_first (is_entry key) db.it
 is_changed key_base db (RenameField from to None) n = passes (has_row from) db.items n
 is_changed key_base db (RenameField from to (Some key)) n = is_first (is_entry key) db.items n
 is_changed key_base db (SetMacro name value) n = is_first (defines name) db.items n
+is_changed key_base db (ChangeEntry key change) n = is_changed_by key change db n
+is_changed key_base db (ChangeDefinition name k change) n = not (is_removed change) && is_meant (definition_meant name k db.items) n
 is_changed key_base db other n = false
+
+-- the number that n gets when what has the number that was found is taken out
+abbrev pub number_without : Option ℕ → ℕ → ℕ
+number_without None n = n
+number_without (Some i) n = number_with_one_less i n
+
+-- the number of item n after a change of an entry, if it is not taken away
+abbrev pub number_after : EntryChange → Option ℕ → ℕ → ℕ
+number_after Removes found n = number_without found n
+number_after (Moves position) found n = number_with_one_more position (number_without found n)
+number_after other found n = n
+
+-- the number of item n after a change of a definition, if it is not taken away
+abbrev pub number_beside : DefinitionChange → Option ℕ → ℕ → ℕ
+number_beside Undefines found n = number_without found n
+number_beside (SetsValue value) found n = n
 
 -- the number of item n afterwards, if it is not taken away
 abbrev pub new_number : Reading → Edit → ℕ → ℕ
@@ -153,6 +195,8 @@ new_number db (InlineMacro name) n = number_with_one_less (number_of_first (defi
 new_number db (UndefineMacro name) n = number_with_one_less (number_of_first (defines name) db.items) n
 new_number db (IntroduceMacro name text) n = number_with_one_more (number_of_first (any_part (holds text)) db.items) n
 new_number db (DefineMacro name value) n = number_with_one_more (definitions_end db.items) n
+new_number db (ChangeEntry key change) n = number_after change (item_meant key db.items) n
+new_number db (ChangeDefinition name k change) n = number_beside change (definition_meant name k db.items) n
 new_number db other n = n
 
 -- the trail of item n if the edit takes that item away, else nothing
@@ -190,3 +234,9 @@ untouched_items_stay = (key_base : Record → Text) (db : Reading) (e : Edit) �
 abbrev pub moved_entry_stays : Type 0
 moved_entry_stays = (key_base : Record → Text) (db : Reading) (key : Text) (position : ℕ) → IsAccepted key_base db (MoveEntry key position) →
     (item : Item) × (find (λ item. is_entry key item.tree) db.items ≡ Some item) × (slice_get (edited key_base db (MoveEntry key position)).items position ≡ Some (in_line item.tree))
+
+-- An entry that is moved by its number among several keeps its body, and gets a line of its own.
+abbrev pub moved_one_stays : Type 0
+moved_one_stays = (key_base : Record → Text) (db : Reading) (key : Which) (position : ℕ) → IsAccepted key_base db (ChangeEntry key (Moves position)) →
+    (n : ℕ) × (item : Item) × (item_meant key db.items ≡ Some n) × (slice_get db.items n ≡ Some item)
+    × (slice_get (edited key_base db (ChangeEntry key (Moves position))).items position ≡ Some (in_line item.tree))

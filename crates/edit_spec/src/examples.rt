@@ -1,6 +1,6 @@
 //! What the definitions say of small files, and what would go wrong without each condition of an edit.
 
-ghost use Rattle.edit_spec.specs.Examples.{MacroIsReadWhereItStands, MonthIsOverridden, MacroIsInlinedAsText, TextGetsName, DefinitionIsAdded, MacroGetsValue, UseBeforeDefinitionIsLeft, TextsAreJoined, FieldIsSetAndDropped, FirstCounts, EntriesAreAddedAndMoved, JoinedTextStaysText, TrailJoinsTextBefore, ParentIsCitedWithChildren, CrossrefsFindTargets, CrossrefOfPartsIsRenamed, RecordInheritsAlongChain, MadeKeysSwap, MadeKeysDiffer, MadeKeysReadTheChain, DanglingCrossrefFindsKey, KeyInUseTakesChildren, SpacedKeyLosesChildren, RepeatedKeyTakesChildren, RemovedParentLeavesChildren, AddedKeyTakesChildren, HighPlaceIsNotReached, KeyBaseIsNeeded, NameInUseGivesText, MacroDefinedTwiceHasTwoTexts, StarCitesAll, EditsAreAccepted};
+ghost use Rattle.edit_spec.specs.Examples.{MacroIsReadWhereItStands, MonthIsOverridden, MacroIsInlinedAsText, TextGetsName, DefinitionIsAdded, MacroGetsValue, UseBeforeDefinitionIsLeft, TextsAreJoined, FieldIsSetAndDropped, FirstCounts, EntriesAreAddedAndMoved, JoinedTextStaysText, TrailJoinsTextBefore, ParentIsCitedWithChildren, CrossrefsFindTargets, CrossrefOfPartsIsRenamed, RecordInheritsAlongChain, MadeKeysSwap, MadeKeysDiffer, MadeKeysReadTheChain, DanglingCrossrefFindsKey, KeyInUseTakesChildren, SpacedKeyLosesChildren, RepeatedKeyTakesChildren, RemovedParentLeavesChildren, AddedKeyTakesChildren, HighPlaceIsNotReached, KeyBaseIsNeeded, NameInUseGivesText, MacroDefinedTwiceHasTwoTexts, StarCitesAll, EditsAreAccepted, OneOfSeveralChanges, OneDefinitionChanges};
 
 /// A use of a macro means the last definition before it; if there is none, it means the month of that name.
 pub fn a_macro_is_read_where_it_stands()
@@ -160,4 +160,14 @@ pub fn a_star_cites_all()
 /// Each kind of edit is accepted in some file, so the laws are not empty.
 pub fn edits_are_accepted()
     ensures { EditsAreAccepted }
+{}
+
+/// A number says which of several entries with one key is meant, or which of several fields with one name.
+pub fn one_of_several_changes()
+    ensures { OneOfSeveralChanges }
+{}
+
+/// A number says which of several definitions of a macro is meant.
+pub fn one_definition_changes()
+    ensures { OneDefinitionChanges }
 {}

@@ -1,10 +1,11 @@
-//! What edits make of a `.bib` file, why they are refused, and how keys are made, in definitions. There is no code here,
-//! only functions that do nothing and carry the laws about the definitions.
+//! What edits make of a `.bib` file, which of its bytes they replace, and why they are refused, in definitions. How keys are made is
+//! in `bib_spec`. There is no code here, only functions that do nothing and carry the laws about the definitions.
 #![tactic(auto)]
 
 mod edits;
 mod examples;
 mod macros;
+mod one_of_several;
 mod other_entries;
 mod renaming;
 mod types;
@@ -22,9 +23,13 @@ pub use examples::{
     a_text_gets_a_name, a_trail_joins_the_text_before, a_use_before_the_definition_is_left,
     an_added_key_takes_children, crossrefs_find_targets, edits_are_accepted,
     entries_are_added_and_moved, joined_text_stays_text, made_keys_change_places, made_keys_differ,
-    made_keys_read_the_chain, texts_are_joined, the_first_of_a_name_counts,
+    made_keys_read_the_chain, one_definition_changes, one_of_several_changes, texts_are_joined,
+    the_first_of_a_name_counts,
 };
 pub use macros::a_macro_stands_for_its_last_definition;
+pub use one_of_several::{
+    one_of_several_definitions_changes_alone, one_of_several_entries_changes_alone,
+};
 pub use other_entries::other_entries_are_kept;
 pub use renaming::{
     defining_a_macro_keeps_the_rest, inlining_a_macro_keeps_the_rest,

@@ -5,8 +5,8 @@ use crate::renames::{CROSSED, MADE};
 use crate::rows::Stop;
 use crate::splicing::{Change, pieces_of};
 use bib_edit::free_key;
-use bib_scan::{Text, copied};
 use bib_store::{Database, Holders, ItemList};
+use bib_text::{Text, copied};
 use std::alloc::{AllocError, Global};
 use std::test::Fail;
 

@@ -3,8 +3,8 @@
 use crate::rows::{Course, Step, Stop, all_come_out, told};
 use crate::turns::{Long, Turn};
 use bib_journal::STEP_TEXTS_LIMIT;
-use bib_scan::{Seq, Text};
 use bib_store::Piece;
+use bib_text::{Seq, Text};
 use journal_format::step_text_len;
 use std::alloc::{AllocError, Global};
 use std::test::Fail;

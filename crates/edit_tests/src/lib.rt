@@ -32,6 +32,8 @@ mod runs;
 #[cfg(test)]
 mod sessions;
 #[cfg(test)]
+mod several;
+#[cfg(test)]
 mod splicing;
 #[cfg(test)]
 mod turns;

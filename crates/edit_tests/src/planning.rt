@@ -33,6 +33,12 @@ const EDITS: &[Planned] = &[
         pieces: &[(3, b"Misc", b"Book")],
     },
     Planned {
+        name: "a type in letters of another case gives way, too",
+        file: b"@Misc{a}",
+        turn: Turn::Script(b"set-type\ta\tmisC"),
+        pieces: &[(1, b"Misc", b"misC")],
+    },
+    Planned {
         name: "the names of fields give way alone, whatever their case",
         file: b"x@misc{a, T = 1}@misc{b,t=2}",
         turn: Turn::Script(b"rename-field\tt\ttitle"),

@@ -5,8 +5,8 @@ use crate::rows::Stop;
 use crate::turns::{Turn, has_depth, requests_of};
 use bib_edit::{EditFault, Position, plan_at};
 use bib_journal::Request;
-use bib_scan::{Seq, Text};
 use bib_store::{Database, ItemList, Piece};
+use bib_text::{Seq, Text};
 use std::alloc::{AllocError, Global};
 use std::test::Fail;
 

@@ -3,9 +3,9 @@
 use crate::rows::{Course, Row, Step, Stop, all_come_out, all_hold, told};
 use crate::turns::{Asked, Left, Turn, after, requests_of};
 use bib_journal::Request;
-use bib_scan::Seq;
 use bib_script::read_script;
 use bib_store::{Flat, Paged};
+use bib_text::Seq;
 use std::alloc::{AllocError, Global};
 use std::test::Fail;
 

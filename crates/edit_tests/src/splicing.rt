@@ -2,8 +2,8 @@
 
 use crate::examples::{Example, all_hold};
 use crate::rows::Stop;
-use bib_scan::{Seq, Text, copied};
 use bib_store::{Database, ItemList, Piece};
+use bib_text::{Seq, Text, copied};
 use std::alloc::{AllocError, Global};
 use std::test::Fail;
 

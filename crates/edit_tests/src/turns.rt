@@ -5,9 +5,9 @@ ghost use Rattle.bib_data.specs.Depths.{HasDepth, AsksWithDepth};
 
 use bib_edit::Edit;
 use bib_journal::{Performed, Request, Session, SessionFault, perform, repeat};
-use bib_scan::{Seq, Text};
 use bib_script::read_script;
 use bib_store::ItemList;
+use bib_text::{Seq, Text};
 use std::alloc::{AllocError, Global};
 
 /// Bytes, with one byte repeated `count` times among them.

@@ -119,7 +119,7 @@ pub(crate) fn faults_of_requests(word: &[u8]) -> Option<Page>
         return Some(Page {
             number: b"14",
             name: b"NotPlain",
-            text: b"With `--bibtex` bibkeep answers only if BibTeX would read the same items of the file, and of this file it might read others. The\noffset is that of an at-sign. It is there for one of these reasons:\n\n- Something that begins at the at-sign before ends in the last line of the file. BibTeX reads nothing after it.\n- The at-sign is in an entry whose key an earlier entry has. BibTeX reads such an entry up to its key, and then looks for the next\n  at-sign, even inside the entry.\n- The name after the at-sign is not one that bibkeep reads: it has another at-sign or a DEL byte (127) in it, or more than 255\n  bytes.\n\n  $ printf '@misc{a,\\n  note = 1}@misc{b}\\n' > last.bib\n  $ bibkeep cite last.bib --bibtex '*'\n  bibkeep: 14 NotPlain at 20\n  $ echo >> last.bib; bibkeep cite last.bib --bibtex '*'\n  a\n  b\n  $ printf '@misc{a}\\n@misc{a, note = {joe@x.org}}\\n\\n' > again.bib\n  $ bibkeep cite again.bib --bibtex a\n  bibkeep: 14 NotPlain at 29\n\nIf the at-sign is in the last line, end the file with an empty line. Take a repeated entry out: `bibkeep lint F` finds it. In the\nthird case remove the at-sign. There are files of which BibTeX would read the same items all the same; bibkeep refuses these too.\n",
+            text: b"With `--bibtex` bibkeep answers only if BibTeX would read the same items of the file, and of this file it might read others. The\noffset is that of an at-sign. It is there for one of these reasons:\n\n- Something that begins at the at-sign before ends in the last line of the file. BibTeX reads nothing after it.\n- The at-sign is in an entry whose key an earlier entry has. BibTeX reads such an entry up to its key, and then looks for the next\n  at-sign, even inside the entry.\n- The name after the at-sign is not one that bibkeep reads: it has another at-sign or a DEL byte (127) in it, or more than 255\n  bytes.\n\n  $ printf '@misc{a,\\n  note = 1}@misc{b}\\n' > last.bib\n  $ bibkeep cite last.bib --bibtex '*'\n  bibkeep: 14 NotPlain at 20\n  $ echo >> last.bib; bibkeep cite last.bib --bibtex '*'\n  a\n  b\n  $ printf '@misc{a}\\n@misc{a, note = {joe@x.org}}\\n\\n' > again.bib\n  $ bibkeep cite again.bib --bibtex a\n  bibkeep: 14 NotPlain at 29\n\nIf the at-sign is in the last line, end the file with an empty line. Take a repeated entry out: `bibkeep lint F` finds it, and\n`bibkeep edit F remove KEY,2` removes the second with the key. In the third case remove the at-sign. There are files of which\nBibTeX would read the same items all the same; bibkeep refuses these too.\n",
         });
     }
     if is_asked(word, b"15", b"TooDeep") {
@@ -140,7 +140,7 @@ pub(crate) fn faults_of_texts(word: &[u8]) -> Option<Page>
         return Some(Page {
             number: b"21",
             name: b"TooManyCommas",
-            text: b"A name has more than two commas outside braces, not counting those at its end. A name is `First von Last`,\n`von Last, First` or `von Last, Jr, First`.\n\n  $ printf '@misc{a, author = {Lee, A, B, C}}\\n' > names.bib\n  $ bibkeep names names.bib a '{ll}'\n  bibkeep: 21 TooManyCommas\n\nWrite `and` between two names, or braces around the comma: `{Barnes, Inc.}`.\n",
+            text: b"A name has more than two commas outside braces, not counting those at its end. A name is `First von Last`,\n`von Last, First` or `von Last, Jr, First`.\n\n  $ printf '@misc{a, author = {Lee, A, B, C}}\\n' > names.bib\n  $ bibkeep names names.bib a '{ll}'\n  bibkeep: 21 TooManyCommas\n\nWrite `and` between two names, or braces around the comma: `{Barnes, Inc.}`.\n\n`names --bibtex` refuses no name for more commas, since BibTeX does not. It refuses one that has no word before its first comma, such as\n`, Jean`: BibTeX reads there what it did not write. `labels --bibtex` refuses an entry that has such a name among those by which it is\nlabelled and sorted.\n",
         });
     }
     if is_asked(word, b"22", b"UnbalancedName") {
@@ -154,7 +154,7 @@ pub(crate) fn faults_of_texts(word: &[u8]) -> Option<Page>
         return Some(Page {
             number: b"23",
             name: b"BadTemplate",
-            text: b"The template that you gave to `names` is not valid. `NAMES.md` has the rules.\n\n  $ bibkeep names names.bib a '{l'\n  bibkeep: 23 BadTemplate\n\nWrite a template such as `'{ll}{, f.}'`, in single quotes for the shell.\n",
+            text: b"The template that you gave to `names` is not valid. `NAMES.md` has the rules, and those for `--bibtex`, which takes what BibTeX takes.\n\n  $ bibkeep names names.bib a '{l'\n  bibkeep: 23 BadTemplate\n\nWrite a template such as `'{ll}{, f.}'`, in single quotes for the shell.\n",
         });
     }
     if is_asked(word, b"24", b"NotUtf8") {
@@ -203,21 +203,21 @@ pub(crate) fn faults_of_edits(word: &[u8]) -> Option<Page>
         return Some(Page {
             number: b"35",
             name: b"NotFound",
-            text: b"There is nothing to change. No entry has the key, or the entry has no such field to drop or rename; no entry has a field to\nrename; the file does not define the macro (a month is not a definition); or no part of a value is the text to introduce. Or\nno entry has the key of a position `before:KEY` or `after:KEY`, in an edit or an `insert`.\n\n  $ printf '%s\\t%s\\t%s\\n' drop b t | bibkeep edit f.bib\n  applied 0\n  bibkeep: line 1: 35 NotFound\n\n`bibkeep cite F '*'` lists the keys. A field that `show` prints may be inherited: change it in the parent.\n",
+            text: b"There is nothing to change. No entry has the key, or the entry has no such field to drop or rename; no entry has a field to\nrename; the file does not define the macro (a month is not a definition); or no part of a value is the text to introduce. Or\nno entry has the key of a position `before:KEY` or `after:KEY`, in an edit or an `insert`. Or there are not so many of that\nname: `KEY,3` is the third entry with the key.\n\n  $ printf '%s\\t%s\\t%s\\n' drop b t | bibkeep edit f.bib\n  applied 0\n  bibkeep: line 1: 35 NotFound\n\n`bibkeep cite F '*'` lists the keys. A field that `show` prints may be inherited: change it in the parent.\n",
         });
     }
     if is_asked(word, b"36", b"Ambiguous") {
         return Some(Page {
             number: b"36",
             name: b"Ambiguous",
-            text: b"Two entries have the key; or the entry has the field twice, or a new entry would; or the macro is defined twice. The key may also\nbe that of a position, `before:KEY` or `after:KEY`: give the number of items then. `rename-field` says 36 if an entry would have\nthe new name twice; other entries with that name are no reason.\n\n  $ printf '%s\\t%s\\t%s\\t%s\\n' set a t 3 | bibkeep edit f.bib\n  applied 0\n  bibkeep: line 1: 36 Ambiguous\n\n`bibkeep check F` reports repeated entries and extra fields. It does not report a macro that is defined twice, but\n`grep -in '@string' F` lists the definitions. Remove one of the two by hand.\n",
+            text: b"Two entries have the key; or the entry has the field twice, or a new entry would; or the macro is defined twice. The key may also\nbe that of a position, `before:KEY` or `after:KEY`. `rename-field` says 36 if an entry would have the new name twice; other\nentries with that name are no reason.\n\n  $ printf '%s\\t%s\\t%s\\t%s\\n' set a t 3 | bibkeep edit f.bib\n  applied 0\n  bibkeep: line 1: 36 Ambiguous\n\n`bibkeep lint F` finds repeated keys, fields and macros, each with its line. A number behind the name tells which is meant:\n`t,2` is the second `t` in the order of the file, and `t,1` the first.\n\n  $ bibkeep edit f.bib --print drop a t,2\n  @misc{a, t = 1}\n  @misc{b, crossref = {c}}\n  @misc{c}\n\n`remove KEY,2` removes the second entry with the key, and `rename-key KEY,2 NEW` keeps it under another key. `undefine NAME,2`\nremoves the second definition of a macro; `inline` and `rename-macro` take no number. If `rename-field` would make two fields of\none name, drop one of them first.\n",
         });
     }
     if is_asked(word, b"37", b"KeyInUse") {
         return Some(Page {
             number: b"37",
             name: b"KeyInUse",
-            text: b"Another entry has the new key already, or another new entry would get it. An import says so too, and `insert` of a text with a key\nthat the file has, or that two of its entries have.\n\n`rename-key` also refuses a key that no entry has but that a crossref names. The renamed entry would become a parent, and\nyou did not ask for that. `add` and `import` accept such a key: the new entry becomes the parent.\n\n  $ printf '%s\\t%s\\t%s\\t%s\\n' add 0 misc C | bibkeep edit f.bib\n  applied 0\n  bibkeep: line 1: 37 KeyInUse\n\nChoose another key. In the text of an `insert`, change it before the text goes in: `bibkeep edit entry.bib rename-key C C2`.\n",
+            text: b"Another entry has the new key already, or another new entry would get it. An import says so too, and `insert` of a text with a key\nthat the file has, or that two of its entries have.\n\n`rename-key` also refuses a key that no entry has but that a crossref names. The renamed entry would become a parent, and\nyou did not ask for that. `add` and `import` accept such a key: the new entry becomes the parent.\n\n  $ printf '%s\\t%s\\t%s\\t%s\\n' add 0 misc C | bibkeep edit f.bib\n  applied 0\n  bibkeep: line 1: 37 KeyInUse\n\nChoose another key. In the text of an `insert`, change it before the text goes in: `bibkeep edit entry.bib rename-key C C2`, or\n`rename-key C,2 C2` if two of its entries have it.\n",
         });
     }
     if is_asked(word, b"38", b"NameInUse") {
@@ -231,7 +231,7 @@ pub(crate) fn faults_of_edits(word: &[u8]) -> Option<Page>
         return Some(Page {
             number: b"39",
             name: b"Referred",
-            text: b"The `crossref` of another entry names the entry that you remove. The other entry would lose what it inherits.\n\n  $ printf '%s\\t%s\\n' remove c | bibkeep edit f.bib\n  applied 0\n  bibkeep: line 1: 39 Referred\n  $ bibkeep cite f.bib '*' | awk -F'\\t' 'tolower($2) == \"c\" { print $1 }'\n  b\n\nThe last command lists the entries that refer to `c`. `drop` or `set` their `crossref` first.\n\n`undefine` says 39 of a macro that a value after the definition uses. The value would lose the macro's text.\n\n  $ printf '@string{m = 1}@misc{a, t = m}' > used.bib; bibkeep edit used.bib undefine m\n  applied 0\n  bibkeep: 39 Referred\n\n`inline` writes the text for the uses, and removes the definition.\n",
+            text: b"The `crossref` of another entry names the entry that you remove. The other entry would lose what it inherits.\n\n  $ printf '%s\\t%s\\n' remove c | bibkeep edit f.bib\n  applied 0\n  bibkeep: line 1: 39 Referred\n  $ bibkeep cite f.bib '*' | awk -F'\\t' 'tolower($2) == \"c\" { print $1 }'\n  b\n\nThe last command lists the entries that refer to `c`. `drop` or `set` their `crossref` first. If two entries have the key, a\n`crossref` means the first: `remove KEY,2` is not refused for it.\n\n`undefine` says 39 of a macro that a value after the definition uses. The value would lose the macro's text.\n\n  $ printf '@string{m = 1}@misc{a, t = m}' > used.bib; bibkeep edit used.bib undefine m\n  applied 0\n  bibkeep: 39 Referred\n\n`inline` writes the text for the uses, and removes the definition.\n",
         });
     }
     if is_asked(word, b"40", b"WouldMerge") {
@@ -252,7 +252,7 @@ pub(crate) fn faults_of_edits(word: &[u8]) -> Option<Page>
         return Some(Page {
             number: b"46",
             name: b"NoScript",
-            text: b"`diff OLD NEW` found no edits that lead from OLD to NEW. The message names the key of the entry at fault, if there is such an\nentry and it has a key. One of these is most often the reason:\n\n- an entry that NEW has more, or that it has less, has no key;\n- two entries of one file have the same key;\n- a new key is not one that an edit writes (31);\n- a field whose text changes is twice in its entry;\n- an entry that goes holds apart texts that would be read as an item without it (40).\n\n  $ printf '@misc{a}\\n@misc{A}\\n' > twice.bib; printf '@misc{a}\\n' > once.bib\n  $ bibkeep diff twice.bib once.bib\n  bibkeep: 46 NoScript in a\n  $ printf '@misc{a}\\n@misc{}\\n' | bibkeep diff once.bib /dev/stdin\n  bibkeep: 46 NoScript\n\nCorrect the entry in both files, or in the one that has it. `bibkeep lint` finds repeated entries and fields. `diff -u OLD NEW`\nshows the lines that differ.\n",
+            text: b"`diff OLD NEW` found no edits that lead from OLD to NEW. The message names the key of the entry at fault, if there is such an\nentry and it has a key. One of these is most often the reason:\n\n- an entry that NEW has more, or that it has less, has no key;\n- two entries of one file have the same key;\n- a new key is not one that an edit writes (31);\n- a field whose text changes is twice in its entry;\n- an entry that goes holds apart texts that would be read as an item without it (40).\n\n  $ printf '@misc{a}\\n@misc{A}\\n' > twice.bib; printf '@misc{a}\\n' > once.bib\n  $ bibkeep diff twice.bib once.bib\n  bibkeep: 46 NoScript in a\n  $ printf '@misc{a}\\n@misc{}\\n' | bibkeep diff once.bib /dev/stdin\n  bibkeep: 46 NoScript\n\nCorrect the entry in both files, or in the one that has it. `bibkeep lint` finds repeated entries and fields; `remove KEY,2` and\n`drop KEY FIELD,2` take the second out. `diff -u OLD NEW` shows the lines that differ.\n",
         });
     }
     None

@@ -3,3 +3,5 @@
 
 #[cfg(test)]
 mod merges;
+#[cfg(test)]
+mod plain;

@@ -10,8 +10,7 @@ ghost use Rattle.ris_format.specs.Dates.{shown, digits_among, named_among, is_na
 use crate::keeping::Kept;
 use crate::kinds::is;
 use crate::text::has_bytes;
-use bib_scan::{Seq, Text, same_folded};
-use bib_text::trimmed;
+use bib_text::{Seq, Text, same_folded, trimmed};
 use std::alloc::{AllocError, Global};
 
 /// The twelve months, each with its number in two digits.

@@ -7,7 +7,7 @@ ghost use Rattle.ris_format.specs.Escapes.{escapes, escape_of, escaped, is_copie
 
 use crate::kinds::is;
 use crate::lines::{are_neat_lines, read_lines};
-use bib_scan::{Seq, Text, copied};
+use bib_text::{Seq, Text, copied};
 use ris_text::RisLine;
 use std::alloc::{AllocError, Global};
 

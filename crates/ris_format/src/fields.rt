@@ -7,7 +7,7 @@ ghost use Rattle.ris_format.specs.Mapping.{is_filled, has_text, text_of, field, 
 
 use crate::kinds::{Kind, is};
 use crate::text::{copy_with_room, has_bytes};
-use bib_scan::{Text, copied};
+use bib_text::{Text, copied};
 use std::alloc::{AllocError, Global};
 
 /// A record made of RIS has at most this many fields, however many lines the RIS record has.

@@ -20,7 +20,7 @@ use crate::pages::{push_end, push_start};
 use crate::people::{are_written_people, push_people};
 use crate::text::has_bytes;
 use bib_data::Record;
-use bib_scan::{Seq, Text, copied};
+use bib_text::{Seq, Text, copied};
 use ris_text::{RisLine, RisRecord, write_line};
 use std::alloc::{AllocError, Global};
 

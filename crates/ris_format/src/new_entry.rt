@@ -7,7 +7,7 @@ ghost use Rattle.ris_format.specs.declared.fault.MappingFault.TheVariants.{Memor
 use crate::fault::MappingFault;
 use crate::text::{balances, copy_with_room, in_braces};
 use bib_data::{NewEntry, Record};
-use bib_scan::{Seq, Text, copied};
+use bib_text::{Seq, Text, copied};
 use std::alloc::{AllocError, Global};
 use std::mem;
 

@@ -11,8 +11,7 @@ use crate::keeping::Kept;
 use crate::kinds::is;
 use crate::lines::push_single;
 use crate::text::has_bytes;
-use bib_scan::{Seq, Text, copied};
-use bib_text::is_space;
+use bib_text::{Seq, Text, copied, is_space};
 use std::alloc::{AllocError, Global};
 
 /// Whether the text begins with a hyphen.

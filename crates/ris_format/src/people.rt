@@ -14,8 +14,7 @@ use crate::text::{
     balances, copy_with_room, has_bytes, in_braces, join, piece_between, with_comma,
 };
 use bib_names::{Name, NameFault, Word, split_name, split_names};
-use bib_scan::{Seq, Text, copied};
-use bib_text::is_space;
+use bib_text::{Seq, Text, copied, is_space};
 use std::alloc::{AllocError, Global};
 use std::marker::Model;
 

@@ -16,7 +16,8 @@ use crate::pages::are_plain_pages;
 use crate::people::are_plain_names;
 use crate::text::has_bytes;
 use bib_data::Record;
-use bib_scan::{Text, is_key};
+use bib_scan::is_key;
+use bib_text::Text;
 use bib_value::field_text;
 use std::alloc::{AllocError, Global};
 

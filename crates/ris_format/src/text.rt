@@ -7,8 +7,8 @@ ghost use Rattle.bib_names.specs.Label.{balances};
 ghost use Rattle.ris_format.specs.Lines.{has_bytes};
 ghost use Rattle.ris_format.specs.People.{with_comma, in_braces};
 
-use bib_scan::{Seq, Text, is_balanced};
-use bib_text::trimmed;
+use bib_scan::is_balanced;
+use bib_text::{Seq, Text, trimmed};
 use std::alloc::{AllocError, Global};
 
 /// The text between two places, without white space at its ends.

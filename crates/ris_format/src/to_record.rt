@@ -18,7 +18,7 @@ use crate::pages::read_pages;
 use crate::people::read_people;
 use crate::text::join;
 use bib_data::Record;
-use bib_scan::{Seq, Text, copied};
+use bib_text::{Seq, Text, copied};
 use ris_text::{RisLine, RisRecord};
 use std::alloc::{AllocError, Global};
 

@@ -21,9 +21,9 @@ use bib_answers::{
     newkeys_in, show_in,
 };
 use bib_run::ris_in;
-use bib_scan::Text;
 use bib_shelf::{Joined, Shelf};
 use bib_store::Paged;
+use bib_text::Text;
 use bib_words::{Command, Question, Verb};
 use std::alloc::{AllocError, Global};
 

@@ -9,9 +9,10 @@ ghost use Rattle.shelf_run.specs.Answers.{LintsShelf};
 use crate::messages::name_of;
 use aux_text::AuxKeys;
 use bib_answers::{Answer, NamedFiles, lint_fault, lint_in};
-use bib_scan::{ReadFault, Text};
+use bib_scan::ReadFault;
 use bib_shelf::{Joined, Shelf, ShelfFault, file_in};
 use bib_store::Paged;
+use bib_text::Text;
 use std::alloc::{AllocError, Global};
 
 /// What is wrong with files with these names, read as one, and which of the keys that these aux files cite no entry has. Findings

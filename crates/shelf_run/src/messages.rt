@@ -5,8 +5,8 @@ ghost use Rattle.bib_answers.specs.Outcome.{answer_of};
 ghost use Rattle.bib_answers.specs.Messages.{refusal_in};
 
 use bib_answers::{Answer, refusal_in, refused};
-use bib_scan::Text;
 use bib_shelf::ShelfFault;
+use bib_text::Text;
 use std::alloc::{AllocError, Global};
 
 /// The name with this number, from 0; nothing if there are not so many names.

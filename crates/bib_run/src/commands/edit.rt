@@ -2,20 +2,23 @@
 
 ghost use Rattle.std.specs.Prelude.{◌≡◌, ◌≢◌, ◌≤◌, length, Some, All, IfOk, option_map};
 ghost use Rattle.bib_data.specs.Depths.{AsksWithDepth};
-ghost use Rattle.bib_journal.specs.Loading.{Saves};
 ghost use Rattle.bib_journal.specs.Session.{Performs};
 ghost use Rattle.bib_journal.specs.declared.fault.SessionFault.TheVariants.{Memory};
 ghost use Rattle.bib_answers.specs.Outcome.{answer_of};
 ghost use Rattle.bib_run.specs.Inputs.{AnswersInput};
+ghost use Rattle.bib_run.specs.Shown.{IsUpTo};
 ghost use Rattle.bib_run.specs.EditAnswer.{script_line, refused_line, bad_line, stop_line, applied_line, changes_of, edits_in, edited_answer, bad_words_line, fault_message, HasEdited, HasEditedBy, HasEditedByWords, IsEditAnswer, IsWordsAnswer, taken_back, whole};
 
-use crate::sessions::{message_of, open_with, outcome_after, session_fault_name, unopened};
+use crate::sessions::{
+    message_of, open_with, outcome_after, saved_up_to, session_fault_name, unopened,
+};
 use bib_answers::{Answer, Outcome, outcome_of, too_long};
 use bib_data::Request;
 use bib_journal::{Performed, Saved, Session, SessionFault, perform};
-use bib_scan::{FILE_LIMIT, Text, copied};
+use bib_scan::FILE_LIMIT;
 use bib_script::{Script, read_script, read_words};
 use bib_store::Paged;
+use bib_text::{Text, copied};
 use bib_words::status;
 use std::alloc::{AllocError, Global};
 
@@ -31,13 +34,14 @@ pub fn answer_edit(
     file: Vec<u8>,
     journal: Option<&[u8]>,
     new_journal: bool,
+    no_journal: bool,
     input: &[u8],
 ) -> Result<Answer, AllocError>
-    ensures { IfOk result (IsEditAnswer new_journal file.items (option_map (λ text. text.now) journal.entry) input.now) }
+    ensures { IfOk result (IsUpTo no_journal (IsEditAnswer new_journal file.items (option_map (λ text. text.now) journal.entry) input.now)) }
 {
     match open_with(alloc, file, journal, new_journal) {
         Ok(mut session) => {
-            let answer = answer_script(alloc, &mut session, input);
+            let answer = answer_script(alloc, &mut session, no_journal, input);
             session.close();
             answer
         }
@@ -49,24 +53,30 @@ pub fn answer_edit(
 fn answer_script(
     alloc: Global,
     session: &mut Session<Paged>,
+    no_journal: bool,
     input: &[u8],
 ) -> Result<Answer, AllocError>
-    ensures { IfOk result (AnswersInput HasEditedBy input.now session.old) }
+    ensures { IfOk result (IsUpTo no_journal (AnswersInput HasEditedBy input.now session.old)) }
 {
     if input.len() > FILE_LIMIT {
         return too_long(alloc);
     }
-    edit(alloc, session, input)
+    edit(alloc, session, no_journal, input)
 }
 
 /// What the script makes of the file of a session.
-fn edit(alloc: Global, session: &mut Session<Paged>, input: &[u8]) -> Result<Answer, AllocError>
-    ensures { IfOk result (HasEditedBy input.now session.old) }
+fn edit(
+    alloc: Global,
+    session: &mut Session<Paged>,
+    no_journal: bool,
+    input: &[u8],
+) -> Result<Answer, AllocError>
+    ensures { IfOk result (IsUpTo no_journal (HasEditedBy input.now session.old)) }
 {
     let script = read_script(alloc, input)?;
     let requests = script.requests.as_slice();
     let performed = perform_told(session, requests)?;
-    let saved = saved(session)?;
+    let saved = saved_up_to(alloc, session, no_journal)?;
     let message = stop_line(alloc, &script, performed.done, performed.fault)?;
     edited_answer(alloc, requests, performed.done, message, saved)
 }
@@ -77,13 +87,14 @@ pub fn answer_words(
     file: Vec<u8>,
     journal: Option<&[u8]>,
     new_journal: bool,
+    no_journal: bool,
     words: &[Text],
 ) -> Result<Answer, AllocError>
-    ensures { IfOk result (IsWordsAnswer new_journal words.now file.items (option_map (λ text. text.now) journal.entry)) }
+    ensures { IfOk result (IsUpTo no_journal (IsWordsAnswer new_journal words.now file.items (option_map (λ text. text.now) journal.entry))) }
 {
     match open_with(alloc, file, journal, new_journal) {
         Ok(mut session) => {
-            let answer = edit_by_words(alloc, &mut session, words);
+            let answer = edit_by_words(alloc, &mut session, no_journal, words);
             session.close();
             answer
         }
@@ -95,12 +106,13 @@ pub fn answer_words(
 fn edit_by_words(
     alloc: Global,
     session: &mut Session<Paged>,
+    no_journal: bool,
     words: &[Text],
 ) -> Result<Answer, AllocError>
-    ensures { IfOk result (HasEditedByWords words.now session.old) }
+    ensures { IfOk result (IsUpTo no_journal (HasEditedByWords words.now session.old)) }
 {
     match read_words(alloc, words)? {
-        Some(requests) => edit_alone(alloc, session, requests.as_slice()),
+        Some(requests) => edit_alone(alloc, session, no_journal, requests.as_slice()),
         None => bad_words(alloc),
     }
 }
@@ -109,13 +121,14 @@ fn edit_by_words(
 fn edit_alone(
     alloc: Global,
     session: &mut Session<Paged>,
+    no_journal: bool,
     requests: &[Request],
 ) -> Result<Answer, AllocError>
     requires { All AsksWithDepth requests.now }
-    ensures { IfOk result (HasEdited requests.now fault_message session.old) }
+    ensures { IfOk result (IsUpTo no_journal (HasEdited requests.now fault_message session.old)) }
 {
     let performed = perform_told(session, requests)?;
-    let saved = saved(session)?;
+    let saved = saved_up_to(alloc, session, no_journal)?;
     let message = message_of(alloc, performed.fault)?;
     edited_answer(alloc, requests, performed.done, message, saved)
 }
@@ -173,16 +186,6 @@ fn perform_told(session: &mut Session<Paged>, requests: &[Request]) -> Result<Pe
         return Err(AllocError);
     }
     Ok(performed)
-}
-
-/// The file and the journal that a session leaves.
-fn saved(session: &Session<Paged>) -> Result<Saved, AllocError>
-    ensures { IfOk result (Saves session.now.steps) }
-{
-    match session.saved() {
-        Ok(saved) => Ok(saved),
-        Err(_) => Err(AllocError),
-    }
 }
 
 /// How many changes the request is: one if it is an edit or puts a text in.

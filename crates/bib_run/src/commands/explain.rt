@@ -6,7 +6,7 @@ ghost use Rattle.bib_answers.specs.Outcome.{answer_of};
 ghost use Rattle.bib_run.specs.Explaining.{head_lines, no_such_fault_line, IsExplainAnswer};
 
 use bib_answers::{Answer, done, refused};
-use bib_scan::{Text, copied};
+use bib_text::{Text, copied};
 use fault_pages::{Page, page_of};
 use std::alloc::{AllocError, Global};
 

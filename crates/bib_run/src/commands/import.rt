@@ -10,16 +10,18 @@ ghost use Rattle.ris_text.specs.Skipped.{AreSkipped};
 ghost use Rattle.bib_answers.specs.Outcome.{answer_of};
 ghost use Rattle.bib_run.specs.Sessions.{fault_line};
 ghost use Rattle.bib_run.specs.Inputs.{AnswersInput};
+ghost use Rattle.bib_run.specs.Shown.{IsUpTo};
 ghost use Rattle.bib_run.specs.ImportAnswer.{added_line, import_told, unread_line, import_fault_line, HasAdded, HasImported, IsImportAnswer};
 
 use crate::commands::skipping::with_skipped;
-use crate::sessions::{fault_line, open_with, outcome_after, unopened};
+use crate::sessions::{fault_line, open_with, outcome_after, saved_up_to, unopened};
 use bib_answers::{Answer, placed_line, refused, too_long};
 use bib_data::{Edit, NewEntry};
 use bib_journal::{Session, SessionFault};
 use bib_ris::{Additions, ImportFault, import};
-use bib_scan::{FILE_LIMIT, Seq, Text, copied};
+use bib_scan::FILE_LIMIT;
 use bib_store::Paged;
+use bib_text::{Seq, Text, copied};
 use bib_words::Command;
 use ris_text::RisFault;
 use std::alloc::{AllocError, Global};
@@ -33,13 +35,14 @@ pub fn answer_import(
     command: &Command,
     file: Vec<u8>,
     journal: Option<&[u8]>,
+    no_journal: bool,
     input: &[u8],
 ) -> Result<Answer, AllocError>
-    ensures { IfOk result (IsImportAnswer command.now file.items (option_map (λ text. text.now) journal.entry) input.now) }
+    ensures { IfOk result (IsUpTo no_journal (IsImportAnswer command.now file.items (option_map (λ text. text.now) journal.entry) input.now)) }
 {
     match open_with(alloc, file, journal, command.new_journal) {
         Ok(mut session) => {
-            let answer = answer_records(alloc, command, &mut session, input);
+            let answer = answer_records(alloc, command, &mut session, no_journal, input);
             session.close();
             answer
         }
@@ -52,14 +55,15 @@ fn answer_records(
     alloc: Global,
     command: &Command,
     session: &mut Session<Paged>,
+    no_journal: bool,
     input: &[u8],
 ) -> Result<Answer, AllocError>
-    ensures { IfOk result (AnswersInput (HasImported command.now) input.now session.old) }
+    ensures { IfOk result (IsUpTo no_journal (AnswersInput (HasImported command.now) input.now session.old)) }
 {
     if input.len() > FILE_LIMIT {
         return too_long(alloc);
     }
-    import_into(alloc, command, session, input)
+    import_into(alloc, command, session, no_journal, input)
 }
 
 /// Adds the records of a text to the file of a session.
@@ -67,15 +71,16 @@ fn import_into(
     alloc: Global,
     command: &Command,
     session: &mut Session<Paged>,
+    no_journal: bool,
     text: &[u8],
 ) -> Result<Answer, AllocError>
-    ensures { IfOk result (HasImported command.now text.now session.old) }
+    ensures { IfOk result (IsUpTo no_journal (HasImported command.now text.now session.old)) }
 {
     let (latex, strict) = (command.latex, command.strict);
     match import(alloc, session.database(), text, latex, strict) {
         Ok(additions) => {
             let told = told_of(alloc, command.skipped, &additions, text)?;
-            add(alloc, session, additions, told)
+            add(alloc, session, no_journal, additions, told)
         }
         Err(fault) => unread(alloc, fault),
     }
@@ -102,17 +107,16 @@ fn told_of(
 fn add(
     alloc: Global,
     session: &mut Session<Paged>,
+    no_journal: bool,
     additions: Additions,
     told: Text,
 ) -> Result<Answer, AllocError>
-    ensures { IfOk result (HasAdded additions told session.old) }
+    ensures { IfOk result (IsUpTo no_journal (HasAdded additions told session.old)) }
 {
     if let Err(fault) = add_entries(session, additions.entries) {
         return unadded(alloc, fault);
     }
-    let Ok(saved) = session.saved() else {
-        return Err(AllocError);
-    };
+    let saved = saved_up_to(alloc, session, no_journal)?;
     let outcome = outcome_after(alloc, 1, None, saved);
     Ok(Answer {
         output: told,

@@ -14,9 +14,10 @@ use bib_data::Position;
 use bib_edit::{EditFault, place_of};
 use bib_journal::{Session, SessionFault};
 use bib_paste::news_of;
-use bib_scan::{FILE_LIMIT, Text};
+use bib_scan::FILE_LIMIT;
 use bib_script::read_position;
 use bib_store::{Database, Paged};
+use bib_text::Text;
 use std::alloc::{AllocError, Global};
 
 /// How a message calls the text.

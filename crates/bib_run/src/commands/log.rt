@@ -12,8 +12,8 @@ ghost use Rattle.bib_run.specs.Log.{old_len, new_len, label_part, counts_part, s
 use crate::sessions::unopened;
 use bib_answers::{Answer, Outcome, done};
 use bib_journal::{Changes, Session, Step, read_changes};
-use bib_scan::Text;
 use bib_store::{Paged, Piece};
+use bib_text::Text;
 use bib_words::status;
 use std::alloc::{AllocError, Global};
 

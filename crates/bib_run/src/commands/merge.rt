@@ -4,7 +4,7 @@ ghost use Rattle.std.specs.Prelude.{◌≡◌, IfOk};
 ghost use Rattle.bib_run.specs.Apart.{apart_answer};
 
 use bib_answers::{Answer, outcome_of};
-use bib_scan::{Text, copied};
+use bib_text::{Text, copied};
 use bib_words::status;
 use std::alloc::{AllocError, Global};
 

@@ -9,8 +9,8 @@ ghost use Rattle.bib_run.specs.Ris.{ris_told, ris_answer};
 
 use bib_answers::{Answer, all_cited, done, no_such_entry, open, unread};
 use bib_ris::{entries_dropped, entries_plain, entries_ris};
-use bib_scan::Text;
 use bib_store::{Database, Paged};
+use bib_text::Text;
 use std::alloc::{AllocError, Global};
 
 /// The RIS text of the entries that the keys cite, at this depth, with texts as they are or plain, or the fields that it leaves

@@ -5,7 +5,7 @@ ghost use Rattle.ris_text.specs.Lines.{Line};
 ghost use Rattle.ris_text.specs.Skipped.{AreSkipped, stands};
 ghost use Rattle.bib_run.specs.ImportAnswer.{skipped_line, skipped_lines};
 
-use bib_scan::{Seq, Text};
+use bib_text::{Seq, Text};
 use itoa::Buffer;
 use ris_text::{SkippedLine, SkippedLines};
 use std::alloc::AllocError;

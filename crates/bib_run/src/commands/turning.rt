@@ -7,8 +7,8 @@ ghost use Rattle.bib_run.specs.Turns.{turned_line, turned_answer, IsTurnAnswer};
 use crate::sessions::{message_of, outcome_after, unopened};
 use bib_answers::Answer;
 use bib_journal::{Turned, redo_changes, undo_changes};
-use bib_scan::Text;
 use bib_store::Paged;
+use bib_text::Text;
 use std::alloc::{AllocError, Global};
 
 /// Takes the last `n` changes back, or all if there are fewer.

@@ -1,4 +1,4 @@
-use Rattle.std.proofs.Common.{ℕ, ◌≡◌, ◌≢◌, ◌∙◌, sym, ap, subst, false, List, codes}
+use Rattle.std.proofs.Common.{ℕ, ◌≡◌, ◌≢◌, ◌∙◌, sym, ap, subst, List, codes}
 use Rattle.std.proofs.lemmas.Bool.{false≢true}
 use Rattle.bib_spec.specs.Text.{Text}
 use Rattle.aux_text.specs.declared.placing.AuxKeys.{AuxKeys}
@@ -25,3 +25,12 @@ returns-in-Ok c = ends_with_places c.args.command _ c.in-Ok.cited.items _ (c.is_
 pub returns-in-Ok-citing : goal.returns-in-Ok-citing
 returns-in-Ok-citing c =
     ends_with_keys c.args.command _ c.in-Ok-cited_in.cited.items _ (λ lint. false≢true (sym c.if-is_named.false ∙ c.is_named.ensures.1 lint)) c.in-Ok-citing.ensures c.perform_known-in-Ok-citing.ensures
+
+pub returns-in-Err : goal.returns-in-Err
+returns-in-Err c =
+    EndsCiting.uncited (sym (c.names_any.ensures ∙ ap has_any c.as_slice.ensures) ∙ c.if-not-names_any.false) c.in-Err.fault c.end_without_aux.ensures
+
+pub returns-in-Err-cited_in : goal.returns-in-Err-cited_in
+returns-in-Err-cited_in c =
+    EndsCiting.uncited (sym (c.names_any.ensures ∙ ap has_any c.as_slice.ensures) ∙ c.if-not-names_any.false)
+    c.in-Err-cited_in.fault c.end_without_aux-in-Err-cited_in.ensures

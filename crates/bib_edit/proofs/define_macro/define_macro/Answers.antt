@@ -3,8 +3,11 @@ use Rattle.bib_data.specs.declared.edit.Edit.TheVariants.{DefineMacro}
 use Rattle.bib_edit.specs.MacroValues.{defining_piece, MakeOpenFile, IsLengthFault}
 use Rattle.bib_edit.proofs.Results.{if_ok-as, on_ok-as, if_err-as}
 use Rattle.bib_edit.proofs.TabledDefinitions.{tabled-count}
-use Rattle.bib_edit.proofs.DefinedMacro.{refused-value, refused-defined, pieces-define_macro, fit-define_macro, goes-define_macro, opens-define_macro, refused-lengths, allowed-define_macro}
+use Rattle.bib_edit.proofs.DefinedMacro.{refused-name, refused-value, refused-defined, pieces-define_macro, fit-define_macro, goes-define_macro, opens-define_macro, refused-lengths, allowed-define_macro}
 use Rattle.bib_edit.proofs.define_macro.define_macro.Goals as goal
+
+pub returns-then-not-is_name-clause-refused : goal.returns-then-not-is_name-clause-refused
+returns-then-not-is_name-clause-refused g c = refused-name c.args.db.now c.args.name.now c.args.value.now (sym c.is_name.ensures ∙ c.if-not-is_name.true)
 
 pub returns-then-not-branch-clause-refused : goal.returns-then-not-branch-clause-refused
 returns-then-not-branch-clause-refused g c =

@@ -6,8 +6,11 @@ use Rattle.bib_edit.proofs.LimitTests.{not_over}
 use Rattle.bib_edit.proofs.PieceLengths.{goes-within}
 use Rattle.bib_edit.proofs.OpenFiles.{opens-as}
 use Rattle.bib_edit.proofs.AskedEdits.{of-inline_macro}
-use Rattle.bib_edit.proofs.InlinedMacro.{inline-merges, inline-long_file, inline-accepted, refused-definition, inlining-pieces}
+use Rattle.bib_edit.proofs.InlinedMacro.{inline-merges, inline-long_file, inline-accepted, refused-name, refused-definition, inlining-pieces}
 use Rattle.bib_edit.proofs.inline_macro.inline_macro.Goals as goal
+
+pub returns-then-not-is_name-clause-refused : goal.returns-then-not-is_name-clause-refused
+returns-then-not-is_name-clause-refused g c = refused-name c.args.name.now c.args.db.now (sym c.is_name.ensures ∙ c.if-not-is_name.true)
 
 pub returns-in_err-n-clause-refused : goal.returns-in_err-n-clause-refused
 returns-in_err-n-clause-refused g c =

@@ -7,8 +7,11 @@ use Rattle.bib_edit.proofs.NamesInUse.{in-use-told}
 use Rattle.bib_edit.proofs.PieceLengths.{goes-within}
 use Rattle.bib_edit.proofs.OpenFiles.{opens-as}
 use Rattle.bib_edit.proofs.AskedEdits.{of-introduce_macro}
-use Rattle.bib_edit.proofs.IntroducedMacro.{introduce-unbalanced, introduce-missing, introduce-in_use, introduce-long_file, introduce-accepted, introducing-pieces, found-first, found-none, met-first}
+use Rattle.bib_edit.proofs.IntroducedMacro.{introduce-unnamed, introduce-unbalanced, introduce-missing, introduce-in_use, introduce-long_file, introduce-accepted, introducing-pieces, found-first, found-none, met-first}
 use Rattle.bib_edit.proofs.introduce_macro.introduce_macro.Goals as goal
+
+pub returns-then-not-is_name-clause-refused : goal.returns-then-not-is_name-clause-refused
+returns-then-not-is_name-clause-refused g c db reads = of-introduce_macro c.args.name.now c.args.text.now _ (introduce-unnamed c.args.name.now c.args.text.now db (sym c.is_name.ensures ∙ c.if-not-is_name.true))
 
 pub returns-then-not-is_balanced-clause-refused : goal.returns-then-not-is_balanced-clause-refused
 returns-then-not-is_balanced-clause-refused g c db reads = of-introduce_macro c.args.name.now c.args.text.now _

@@ -34,11 +34,11 @@ is_field_long-requires-clause-values g c =
 
 pub are_too_long-requires : goal.are_too_long-requires
 are_too_long-requires g c = asked-short c.args.db.now (asked.MoveEntry c.args.key.now c.args.position) _
-    (λ db reads. of-move_entry c.args.key.now c.args.position _ (c.as_slice.ensures ∙ c.in_ok-pieces.ensures.pieces db reads ∙ moved c.args.key.now c.args.position db c.in_ok-n.n (c.in_ok-n.ensures.movable db reads))) c.opens.ensures
+    (λ db reads. of-move_entry c.args.key.now c.args.position c.requires _ (c.as_slice.ensures ∙ c.in_ok-pieces.ensures.pieces db reads ∙ moved c.args.key.now c.args.position db c.in_ok-n.n (c.in_ok-n.ensures.movable db reads))) c.opens.ensures
 
 pub returns-then-are_too_long-clause-refused : goal.returns-then-are_too_long-clause-refused
 returns-then-are_too_long-clause-refused g c db reads =
-    of-move_entry c.args.key.now c.args.position _ (move-long_file c.args.key.now c.args.position db c.in_ok-n.n (c.in_ok-n.ensures.movable db reads) c.args.db.now reads _ (c.as_slice.ensures ∙ c.in_ok-pieces.ensures.pieces db reads) (c.are_too_long.ensures.0 c.if-are_too_long.true))
+    of-move_entry c.args.key.now c.args.position c.requires _ (move-long_file c.args.key.now c.args.position db c.in_ok-n.n (c.in_ok-n.ensures.movable db reads) c.args.db.now reads _ (c.as_slice.ensures ∙ c.in_ok-pieces.ensures.pieces db reads) (c.are_too_long.ensures.0 c.if-are_too_long.true))
 
 pub returns-then-branch-clause-refused : goal.returns-then-branch-clause-refused
 returns-then-branch-clause-refused g c db reads =
@@ -46,7 +46,7 @@ returns-then-branch-clause-refused g c db reads =
     let found = found-item c.args.key.now c.args.db.now db c.in_ok-n.n reads (held-at c.args.key.now db c.in_ok-n.n can.lone) in
     let fields : c.fields.result ≡ fields_of found.0.tree = c.fields.ensures.fields ∙ ap (λ (v : View). v.fields) (c.item.ensures db reads found.0 found.1.stands) in
     let none = none-long c.args.db.now db (opens-as c.args.db.now db c.one_reading.ensures c.opens.ensures reads) in
-    of-move_entry c.args.key.now c.args.position _ (move-long_text c.args.key.now c.args.position db c.in_ok-n.n can c.args.db.now reads _ (c.as_slice.ensures ∙ c.in_ok-pieces.ensures.pieces db reads) (not_over c.are_too_long.result _ _ c.are_too_long.ensures.1 c.if-are_too_long.false) none found.0 found.1
+    of-move_entry c.args.key.now c.args.position c.requires _ (move-long_text c.args.key.now c.args.position db c.in_ok-n.n can c.args.db.now reads _ (c.as_slice.ensures ∙ c.in_ok-pieces.ensures.pieces db reads) (not_over c.are_too_long.result _ _ c.are_too_long.ensures.1 c.if-are_too_long.false) none found.0 found.1
     (long-there db c.in_ok-n.n c.args.position c.next_item.result _ c.fields.result (fields_of found.0.tree) c.next_item.ensures fields (subst (λ b. IsFieldLong b db c.next_item.result c.fields.result) c.if-branch.true (c.in_ok-is_field_long.ensures.long db reads))))
 
 pub moved_pieces-requires-clause-number : goal.moved_pieces-requires-clause-number
@@ -57,7 +57,7 @@ moved_pieces-requires-clause-position g c db reads = position-within c.args.key.
 
 pub returns-clause-pieces : goal.returns-clause-pieces
 returns-clause-pieces g c db reads =
-    of-move_entry c.args.key.now c.args.position _ (c.in_ok-pieces.ensures.pieces db reads ∙ moved c.args.key.now c.args.position db c.in_ok-n.n (c.in_ok-n.ensures.movable db reads))
+    of-move_entry c.args.key.now c.args.position c.requires _ (c.in_ok-pieces.ensures.pieces db reads ∙ moved c.args.key.now c.args.position db c.in_ok-n.n (c.in_ok-n.ensures.movable db reads))
 
 pub returns-clause-allowed : goal.returns-clause-allowed
 returns-clause-allowed g c db reads =
@@ -65,5 +65,5 @@ returns-clause-allowed g c db reads =
     let found = found-item c.args.key.now c.args.db.now db c.in_ok-n.n reads (held-at c.args.key.now db c.in_ok-n.n can.lone) in
     let fields : c.fields.result ≡ fields_of found.0.tree = c.fields.ensures.fields ∙ ap (λ (v : View). v.fields) (c.item.ensures db reads found.0 found.1.stands) in
     let none = none-long c.args.db.now db (opens-as c.args.db.now db c.one_reading.ensures c.opens.ensures reads) in
-    of-move_entry c.args.key.now c.args.position _ (move-accepted c.args.key.now c.args.position db c.in_ok-n.n can c.args.db.now reads _ (c.as_slice.ensures ∙ c.in_ok-pieces.ensures.pieces db reads) (not_over c.are_too_long.result _ _ c.are_too_long.ensures.1 c.if-are_too_long.false) none found.0 found.1
+    of-move_entry c.args.key.now c.args.position c.requires _ (move-accepted c.args.key.now c.args.position db c.in_ok-n.n can c.args.db.now reads _ (c.as_slice.ensures ∙ c.in_ok-pieces.ensures.pieces db reads) (not_over c.are_too_long.result _ _ c.are_too_long.ensures.1 c.if-are_too_long.false) none found.0 found.1
     (long-there db c.in_ok-n.n c.args.position c.next_item.result _ c.fields.result (fields_of found.0.tree) c.next_item.ensures fields (subst (λ b. IsFieldLong b db c.next_item.result c.fields.result) c.if-branch.false (c.in_ok-is_field_long.ensures.long db reads))))

@@ -5,8 +5,11 @@ use Rattle.bib_edit.proofs.PieceLengths.{goes-within}
 use Rattle.bib_edit.proofs.LimitTests.{not_over}
 use Rattle.bib_edit.proofs.OpenFiles.{opens-as}
 use Rattle.bib_edit.proofs.AskedEdits.{of-rename_macro}
-use Rattle.bib_edit.proofs.RenamedMacro.{rename-in_use, rename-long_file, rename-accepted, refused-definition, defined-there, renaming-pieces}
+use Rattle.bib_edit.proofs.RenamedMacro.{rename-in_use, rename-long_file, rename-accepted, refused-name, refused-definition, defined-there, renaming-pieces}
 use Rattle.bib_edit.proofs.rename_macro.rename_macro.Goals as goal
+
+pub returns-then-not-are_names-clause-refused : goal.returns-then-not-are_names-clause-refused
+returns-then-not-are_names-clause-refused g c = refused-name c.args.from.now c.args.to.now c.args.db.now (sym c.are_names.ensures ∙ c.if-not-are_names.true)
 
 pub names_from-requires : goal.names_from-requires
 names_from-requires g c = defined-there c.args.db.now c.args.from.now c.args.to.now c.in_ok-n.n c.in_ok-n.ensures.lone

@@ -1,13 +1,9 @@
 use Rattle.bib_edit.proofs.Words.{length, ◌∙◌, ap, arith}
-use Rattle.bib_edit.proofs.SettingPieces.{item-within}
 use Rattle.bib_edit.proofs.TypedEntries.{type-within, typing-is}
 use Rattle.bib_edit.proofs.set_type.typing.Goals as goal
 
-pub item-view-requires : goal.item-view-requires
-item-view-requires g c db reads = item-within c.args.db.now c.args.n c.requires db reads
-
 pub item_place-requires : goal.item_place-requires
-item_place-requires g c db reads = let within = item-within c.args.db.now c.args.n c.requires db reads in omega (arith, within)
+item_place-requires g c db reads = let within = c.requires db reads in omega (arith, within)
 
 pub overflow_add-result : goal.overflow_add-result
 overflow_add-result g c =

@@ -11,4 +11,4 @@ returns-in-Ok g c =
 pub returns-in-Err : goal.returns-in-Err
 returns-in-Err g c =
     unstored_so _ _ _ _ _ _ _ (ap option_copied c.in-Some.is) (sym c.leaves_some.ensures ∙ c.if-not-leaves_some.false)
-    c.end-in-Err.ensures.status c.bytes_of-file.ensures c.in-Err.ensures.err
+    c.end-status.ensures.status c.bytes_of-file.ensures c.in-Err.ensures.err

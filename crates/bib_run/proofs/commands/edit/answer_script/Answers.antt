@@ -1,13 +1,14 @@
 use Rattle.bib_run.proofs.Words.{◌≤◌, ◌<◌, length, rules, IfOk-weaker, file_limit, within}
 use Rattle.bib_run.specs.Inputs.{too_long}
+use Rattle.bib_run.proofs.UpToJournal.{up_to, up_to-weaker}
 use Rattle.bib_run.proofs.commands.edit.answer_script.Goals as goal
 
 pub returns-then-input-gt-FILE_LIMIT : goal.returns-then-input-gt-FILE_LIMIT
 returns-then-input-gt-FILE_LIMIT c =
     let long : file_limit < length c.args.input.now = search rules in
-    IfOk-weaker c.too_long.result _ _ (λ answer h. too_long long h) c.too_long.ensures
+    IfOk-weaker c.too_long.result _ _ (λ answer h. up_to c.args.no_journal _ answer (too_long long h)) c.too_long.ensures
 
 pub returns : goal.returns
 returns c =
     let short : length c.args.input.now ≤ file_limit = search rules in
-    IfOk-weaker c.edit.result _ _ (λ answer h. within short h) c.edit.ensures
+    IfOk-weaker c.edit.result _ _ (λ given h. up_to-weaker c.args.no_journal _ _ given (λ answer is. within short is) h) c.edit.ensures

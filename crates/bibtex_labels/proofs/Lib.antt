@@ -1,0 +1,6 @@
+pub mod AllLemmas
+mod PieceLemmas
+mod CommandLemmas
+mod OrderLemmas
+mod LetterLemmas
+mod NameLemmas

@@ -1,0 +1,10 @@
+-- ---- names
+pub mod CaseLemmas
+pub mod WordLemmas
+pub mod NameLemmas
+-- ---- templates
+pub mod GroupLemmas
+pub mod LetterLemmas
+pub mod TemplateLemmas
+-- ---- printing
+pub mod CountLemmas

@@ -1,0 +1,7 @@
+use Rattle.std.proofs.Common.{refl}
+use Rattle.bib_spec.specs.Text.{is_space}
+use Rattle.bibtex_names.proofs.rows.later_commas_part_words.Goals as goal
+
+pub returns : goal.returns
+unfolding is_space
+returns c = refl

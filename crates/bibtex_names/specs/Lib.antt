@@ -1,0 +1,10 @@
+pub mod Letters
+pub mod Case
+pub mod Words
+pub mod Name
+pub mod Template
+pub mod Reading
+pub mod Counting
+pub mod Printing
+pub mod NamesInLists
+pub mod Rows
