@@ -136,6 +136,13 @@ PRINTED = [
     Printed("bytes-are-letters", b"Knuth", b"{\xc3\xa9ll}", b"\xc3\xa9Knuth", b""),
     Printed("bytes-are-letters", b"Jean {\\o\xc3\xa9} Knuth", b"{ff}|{vv}", b"Jean|{\\o\xc3\xa9}", b"Jean~{\\o\xc3\xa9}|"),
 ]
+# What has no print by BibTeX, or none without a complaint.
+REFUSED_NAMES = [
+    (b"Ann Lee and , Jean", b"{ll}", b"bibkeep: 21 TooManyCommas\n"),
+    (b"Jean", b"{fv}", b"bibkeep: 23 BadTemplate\n"),
+    (b"Jean", b"{f{}f}", b"bibkeep: 23 BadTemplate\n"),
+    (b"Jean", b"{f}}", b"bibkeep: 23 BadTemplate\n"),
+]
 
 
 def compare_examples(report, bibtex, bibkeep):
@@ -165,6 +172,13 @@ def compare_examples(report, bibtex, bibkeep):
         bibtex.takes(file, style_for(file, [it.template]))
         found = bibtex.answer([b"a"]).names[0]
         report.compare("examples by BibTeX", where, found, lambda rules: [it.theirs] if rules else ours, [it.rule])
+        # BibTeX complains where it prints nothing
+        by_option = [it.theirs] if it.theirs else [b"@refused bibkeep: 23 BadTemplate\n"]
+        report.expect("examples by `--bibtex`", where, bibkeep.names_as_bibtex(b"a", it.template), by_option)
+    for name, template, line in REFUSED_NAMES:
+        bibkeep.takes(b"@misc{a, author = {" + name + b"}}\n\n")
+        where = f"{name.decode()} by {template.decode()}"
+        report.expect("names that `--bibtex` refuses", where, bibkeep.names_as_bibtex(b"a", template), [b"@refused " + line])
 
 
 def records_by_bibkeep(bibkeep, it):

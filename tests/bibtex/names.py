@@ -32,6 +32,10 @@ TEMPLATES = [
     b"{ll}",
 ]
 GROUP_TEXTS = [b"", b"", b" ", b"~", b"~~", b", ", b".", b"-", b"1", b"("]
+# What BibTeX alone takes: other commas, letters and groups.
+LATER_COMMAS = [b" , ", b"~, ", b"-,", b" ,,"]
+LETTERS = [b"F", b"FF", b"fF", b"V", b"vV", b"L", b"Ll", b"J", b"JJ"]
+INNER_GROUPS = [b"{}", b"{a}", b"{\\x}", b"{{1}~}", b"{~~}"]
 NO_RULES = frozenset()
 
 
@@ -64,6 +68,27 @@ class Names:
         kinds = [CAPITAL, LOWER, NO_CASE, EMPTY, BYTES, BELOW]
         return self.random.choice(self.random.choices(kinds, [12, 6, 2, 1, 1, 1])[0])
 
+    def list_of_bibtex(self, count):
+        return self.name_of_bibtex() + b"".join(self.random.choice(AND) + self.name_of_bibtex() for _ in range(count - 1))
+
+    def name_of_bibtex(self):
+        """A name that may have more than two commas. There is a separator before each of these, since BibTeX notes no comma."""
+        made = self.piece() + b", " + self.piece() + b", " + self.piece()
+        for _ in range(self.random.choice([0, 1, 1, 2])):
+            made += self.random.choice(LATER_COMMAS) + self.piece()
+        return made
+
+    def templates_of_bibtex(self, count):
+        return [self.template_of_bibtex() for _ in range(count)]
+
+    def template_of_bibtex(self):
+        return b"".join(self.text() + self.group_of_bibtex() for _ in range(self.random.choice([1, 2, 3]))) + self.text()
+
+    def group_of_bibtex(self):
+        texts = [*GROUP_TEXTS, *INNER_GROUPS]
+        letters = self.random.choice([*LETTERS, *LETTERS, b""]) + self.random.choice([b"", *INNER_GROUPS])
+        return b"{" + self.random.choice(texts) + letters + self.random.choice(texts) + b"}"
+
     def templates(self, count):
         return TEMPLATES + [self.template() for _ in range(count)]
 
@@ -89,10 +114,16 @@ class Names:
 def compare_names(report, bibtex, bibkeep, seed, count):
     """Compares the prints of a list of names by some templates."""
     made = Names(seed)
-    file, templates = b"@misc{a, author = {" + made.list(count) + b"}}\n\n", made.templates(8)
+    file, templates = b"@misc{a, author = {" + made.list(count) + b"}}\n", made.templates(8)
+    file += b"@misc{b, author = {" + made.list_of_bibtex(count) + b"}}\n\n"
+    of_bibtex = [*templates, *made.templates_of_bibtex(8)]
     bibkeep.takes(file)
-    bibtex.takes(file, style_for(file, templates))
+    bibtex.takes(file, style_for(file, of_bibtex))
     names, prints = bibkeep.show(b"a").fields[b"author"], bibtex.answer([b"a"]).names
+    for key, told in [(b"a", prints), (b"b", bibtex.answer([b"b"]).names)]:
+        for n, template in enumerate(of_bibtex):
+            where = f"names {seed}, {key.decode()}, {template.decode()}"
+            report.expect("`names --bibtex`", where, bibkeep.names_as_bibtex(key, template), told.get(n, []))
     for n, template in enumerate(templates):
         where = f"names {seed}, {template.decode()}"
         ours = bibkeep.names(b"a", template)

@@ -201,6 +201,13 @@ class Bibkeep:
         lines = self.lines_as_bibtex("json", *keys)
         return None if lines is None else [record_in(line) for line in lines]
 
+    def names_as_bibtex(self, key, template):
+        return self.lines_as_bibtex("names", key, template)
+
+    def labels_as_bibtex(self, keys):
+        lines = self.lines_as_bibtex("labels", *keys)
+        return None if lines is None else [tuple(line.split(b"\t", 1)) for line in lines]
+
     def lines_as_bibtex(self, command, *words, options=()):
         ran = self.run(command, *words, options=["--bibtex", *options])
         if ran.returncode == 1 and REFUSED.fullmatch(ran.stderr) and not ran.stdout:

@@ -200,7 +200,9 @@ static void commands(void) {
     CHECK(is(a.output, "@misc c\n"));
     CHECK(bibkeep_run(h, text("json"), &all, 1, &o, text("@misc{a,\n t=1}@misc{b}\n"), NULL, text(""), &a, &e) == 14 && a.status == 1);
     CHECK(e.has_offset && e.offset == 14 && is(a.message, "bibkeep: 14 NotPlain at 14\n"));
-    CHECK(bibkeep_run(h, text("labels"), &all, 1, &o, text(REFS), NULL, text(""), &a, &e) == BIBKEEP_MISUSE && a.status == 2);
+    CHECK(bibkeep_run(h, text("labels"), &all, 1, &o, text("@book{k, author = {D. E. Knuth}, year = 1984}\n\n"), NULL, text(""), &a, &e) == 0);
+    CHECK(is(a.output, "Knu84\tk\n"));
+    CHECK(bibkeep_run(h, text("newkeys"), NULL, 0, &o, text(REFS), NULL, text(""), &a, &e) == BIBKEEP_MISUSE && a.status == 2);
     o.bibtex = 0, o.raw = 1;
     CHECK(bibkeep_run(h, text("json"), &all, 1, &o, text(REFS), NULL, text(""), &a, &e) == 0 && a.status == 0);
     CHECK(bibkeep_run(h, text("labels"), &all, 1, &o, text(REFS), NULL, text(""), &a, &e) == BIBKEEP_MISUSE && a.status == 2);

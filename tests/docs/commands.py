@@ -84,10 +84,20 @@ def compare_examples(report, root, program, top, commands):
 
 
 def compare_example(report, where, example, program, folder):
+    second = re.search(r"^bibkeep edit (\S+) remove (\w+),2$", example)
+    if second:
+        lay_second(second[1], second[2], program, folder)
     answer = run(example, program, folder)
     # diff ends with 1 where it shows a change
     wanted = 1 if re.search(r"(\||^bibkeep) diff [^|]*$", example) else 0
     report.expect(answer.returncode == wanted, where, f"{example}\nends with {answer.returncode} and says\n{answer.stdout.decode()}")
+
+
+def lay_second(name, key, program, folder):
+    """A second entry with this key. It is put in by hand, so that the journal of the examples before no longer fits."""
+    with open(os.path.join(folder, name), "a", encoding="utf-8") as file:
+        file.write(f"@misc{{{key}}}\n")
+    run(f"bibkeep forget {name}", program, folder)
 
 
 def lay_examples(examples, folder):

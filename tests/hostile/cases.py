@@ -270,6 +270,8 @@ READING = [
         b'{"type":"misc","key":"c","parent":"p","fields":{"t":"Communications of the ACM","year":"2001"}}\n',
     ),
     Case(("ris", FILE, "--bibtex", "c", "p"), EARLY, output=b"TY  - GEN\nPY  - 2001///\nID  - c\nER  - \nTY  - GEN\nPY  - 2001///\nID  - p\nER  - \n"),
+    Case(("names", FILE, "--bibtex", "k", "{ll}{, f.}"), b"@book{k, author = {D. E. Knuth}}\n\n", output=b"Knuth, D.~E.\n"),
+    Case(("labels", FILE, "--bibtex", "*"), b"@book{k, author = {D. E. Knuth}, year = 1984}\n\n", output=b"Knu84\tk\n"),
     Case(("cite", FILE, "--bibtex", "*"), b"@misc{a,\n t=1}@misc{b}", status=1, message=b"bibkeep: 14 NotPlain at 14\n"),
     Case(("cite", FILE, "--bibtex", "*"), DEEP, status=1, message=b"bibkeep: 15 TooDeep\n"),
     Case(("show", FILE, "--bibtex", "a"), b"@misc{a,,}", status=1, message=b"bibkeep: 2 ExpectedName at 8\n"),
@@ -356,6 +358,7 @@ EDITING = [
     edited(FIELD, b"set\ta\ty\t{2}", [(14, b"", b",\n  y = {2}")], b"@misc{a, t = 1,\n  y = {2},}"),
     edited(FIELD, b"drop\ta\tT\n", [(7, b", t = 1", b"")], b"@misc{a,}"),
     edited(FIELD, b"set-type\ta\tbook\n", [(1, b"misc", b"book")], b"@book{a, t = 1,}"),
+    edited(b"@misc{a}@misc{A, t = 1}", b"remove\ta,2\n", [(8, b"@misc{A, t = 1}", b"")], b"@misc{a}"),
     edited(TWO, b"move\ta\t1\n", [(0, b"@misc{a}", b""), (18, b"", b"@misc{a}\n")], b"\n@misc{b}\n@misc{a}\n"),
     edited(
         CONFERENCE,

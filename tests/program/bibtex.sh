@@ -1,4 +1,4 @@
-# `--bibtex` of `show`, `cite`, `json` and `ris`.
+# `--bibtex` of `show`, `cite`, `labels`, `json`, `names` and `ris`.
 # shellcheck shell=sh
 
 # A file whose last line is empty.
@@ -83,9 +83,63 @@ given bibtex.aux '\\citation{v}\n'
 given_bibtex '@misc{v}@misc{c, crossref={v}}'
 when cite bibtex.bib --bibtex --aux bibtex.aux c; ends_with 0; prints 'c\tv\nv\n'; says_nothing
 
-# A file of which BibTeX might read other items is refused, by each of the four.
+# Names are taken apart and printed as BibTeX does it.
+are_printed() {
+    given_bibtex "@misc{a, author={$1}}"
+    when names bibtex.bib --bibtex a "$2"; ends_with 0; prints "$3\n"; says_nothing
+}
+are_printed '1 Jean Knuth' '{f. }{ll}' '.~J. Knuth'
+are_printed '{B} Jean Paul Knuth' '{ff}' '{B} Jean~Paul'
+are_printed "{\\\\'E}a B C {Knuth}" '{ll~}{f.}' "{Knuth} {\\\\'E}. B.~C."
+are_printed 1 '~~{l}' '~'
+are_printed 'Jean Knuth' '{FF}{, }{lL{x{y}}}' 'Jean, Knuth'
+are_printed 'Jean Knuth' '{1{ab}f{c}{d}2}' '1{ab}J{d}2'
+are_printed 'a, b, c, d' '{ff}|{ll}|{jj}' 'c~d|a|b'
+are_printed 'a, b, c- , d' '{ff}' 'c-d'
+are_printed 'Ann \303\211lan' '{f.~}{l.}' 'A.~\303.'
+are_printed 'Jean {\\o\303\251} Knuth' '{ff}|{vv}' 'Jean~{\\o\303\251}|'
+are_printed 'A. Lee and others' '{ll}{, f.}' 'Lee, A.\nothers'
+given_bibtex '@misc{a, author={Ann Lee and , Jean}}'
+when names bibtex.bib --bibtex a '{ll}'; ends_with 1; writes_nothing; says 'bibkeep: 21 TooManyCommas'
+when names bibtex.bib --bibtex a '{ll'; ends_with 1; writes_nothing; says 'bibkeep: 23 BadTemplate'
+when names bibtex.bib --bibtex b '{ll'; ends_with 1; writes_nothing; says 'bibkeep: 11 NoSuchEntry'
+when names bibtex.bib --bibtex '*' '{ll}'; ends_with 1; writes_nothing; says 'bibkeep: 11 NoSuchEntry'
+given_bibtex '@misc{a, author={Ann Lee}}'
+for template in '}' '{fv}' '{f f}' '{x}' '{fff}' '{f{}f}' "$(printf '{\303\251ll}')"; do
+    when names bibtex.bib --bibtex a "$template"; ends_with 1; writes_nothing; says 'bibkeep: 23 BadTemplate'
+done
+
+# The names are those of the record: of the editors if there is no author, and inherited ones too.
+given_bibtex '@misc{c, author={}, crossref={p}}@misc{p, editor={Ed Lee}}@misc{q}'
+when names bibtex.bib --bibtex C '{ll}'; ends_with 0; prints 'Lee\n'; says_nothing
+when names bibtex.bib --bibtex q '{ll}'; ends_with 0; writes_nothing; says_nothing
+given_bibtex '@misc{p, editor={Ed Lee}}@misc{c, crossref={p}}'
+when names bibtex.bib --bibtex c '{ll}'; ends_with 0; writes_nothing; says_nothing
+
+# Labels are those of the style alpha, in the order of its bibliography.
+are_labelled() {
+    given_bibtex "$1"
+    when labels bibtex.bib --bibtex '*'; ends_with 0; prints "$2\n"; says_nothing
+}
+are_labelled '@book{k1, author={Donald E. Knuth}, year=1984, title={B}}@book{k2, author={Donald Knuth}, year=1984, title={A}}@misc{abcd, year=2001}' \
+    'abc01\tabcd\nKnu84a\tk2\nKnu84b\tk1'
+are_labelled '@misc{a, author={D. Knuth}, year=1984}@misc{b, author={D. {KNUTH}}, year=1984}' 'Knu84a\ta\n{KNU}84b\tb'
+are_labelled '@misc{a, author={D. Knuth}, year=1884}@misc{b, author={D. Knuth}, year=1984}' 'Knu84\ta\nKnu84\tb'
+are_labelled '@book{a, editor={Ed Lee}}@proceedings{b, author={A. Wee}, organization={The Guild}}@manual{c, key={{Ab}cd}, organization={The X}}' \
+    '{Ab}c\tc\nGui\tb\nLee\ta'
+are_labelled '@misc{a, author={A. Aa and B. Bb and C. Cc and D. Dd and E. Ee}}@misc{b, author={Jean de la Fontaine and others}}' \
+    'ABC{\\etalchar{+}}\ta\ndlF{\\etalchar{+}}\tb'
+are_labelled '@misc{a, author={{The Guild}}, year={c. {\\AE}1990--91}, title={The A Zebra}}@misc{b, author={{The Guild}}, year=1991, title={An Ant}}' \
+    '{The}91\ta\n{The}91\tb'
+given_bibtex '@misc{a, author={Ann Lee and , Jean}}@misc{b}'
+when labels bibtex.bib --bibtex '*'; ends_with 1; writes_nothing; says 'bibkeep: 21 TooManyCommas'
+when labels bibtex.bib --bibtex a zz; ends_with 1; writes_nothing; says 'bibkeep: 11 NoSuchEntry'
+when labels bibtex.bib --bibtex B; ends_with 0; prints 'B\tB\n'; says_nothing
+
+# A file of which BibTeX might read other items is refused, by each of the six.
 refuses_bibtex() {
-    for words in 'show bibtex.bib --bibtex a' 'cite bibtex.bib --bibtex a' 'json bibtex.bib --bibtex a' 'ris bibtex.bib --bibtex a'; do
+    for words in 'show bibtex.bib --bibtex a' 'cite bibtex.bib --bibtex a' 'json bibtex.bib --bibtex a' 'ris bibtex.bib --bibtex a' \
+        'names bibtex.bib --bibtex a {ll}' 'labels bibtex.bib --bibtex a'; do
         given bibtex.bib "$2"
         # shellcheck disable=SC2086
         when $words; ends_with 1; writes_nothing; says "bibkeep: $1"
@@ -135,7 +189,11 @@ misuses '--before <FILE>' show bibtex.bib --bibtex --before bibtex.bib a
 misuses '--before <FILE>' cite bibtex.bib --bibtex --before bibtex.bib a
 misuses '--after <FILE>' json bibtex.bib --bibtex --after bibtex.bib a
 misuses '--after <FILE>' ris bibtex.bib --bibtex --after bibtex.bib a
-for words in 'check bibtex.bib' 'labels bibtex.bib a' 'names bibtex.bib a {ll}' 'newkeys bibtex.bib' 'extract bibtex.bib a' 'entry bibtex.bib a'; do
+misuses '--depth <D>' labels bibtex.bib --bibtex --depth 2 a
+misuses '--after <FILE>' labels bibtex.bib --bibtex --after bibtex.bib a
+misuses '--depth <D>' names bibtex.bib --bibtex --depth 1 a '{ll}'
+misuses '--before <FILE>' names bibtex.bib --before bibtex.bib --bibtex a '{ll}'
+for words in 'check bibtex.bib' 'newkeys bibtex.bib' 'extract bibtex.bib a' 'entry bibtex.bib a'; do
     # shellcheck disable=SC2086
     when $words --bibtex; ends_with 2; writes_nothing; complains_of "unexpected argument '--bibtex' found"
 done

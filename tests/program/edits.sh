@@ -90,6 +90,84 @@ edit; ends_with 1; writes wanted; says 'bibkeep: line 1: 71 BadScript'
 given_edit '@misc{a}' 'set-type\ta\tbook\tx'
 edit; ends_with 1; writes wanted; says 'bibkeep: line 1: 71 BadScript'
 
+# A number tells which of several entries, fields or definitions is meant.
+given wanted 'applied 5\n'
+given_edit '@string{p={A}}@misc{a,t=p}@string{P={B}}@misc{A,t=p}@misc{c,crossref={a}}' 'set\ta,2\tt\t1\nset-macro\tp,1\t{C}\nundefine\tp,2\nrename-key\ta,1\tb\nmove\ta,1\tafter:b\n'
+edit; ends_with 0; writes wanted; says_nothing; leaves '@string{p={C}}@misc{b,t=p}@misc{A,t=1}\n@misc{c,crossref={b}}'
+given wanted 'applied 3\n'
+given_edit '@misc{a,t=1,t=2}@misc{a}@misc{a}' 'drop\ta,1\tt,2\nremove\ta,3\nremove\ta,2\nremove\ta,2'
+edit; ends_with 1; writes wanted; says 'bibkeep: line 4: 35 NotFound'; leaves '@misc{a,t=1}'
+
+# Each edit of the second of a name, and an undo of it.
+macros='@string{m = {one}}\n@string{M = {two}}\n'
+one='@misc{a, t = 1, T = 2}\n'
+child='@misc{c, crossref = {A}}\n'
+two='@misc{A, t = 3}\n'
+leads_to() {
+    led=$1
+    shift
+    given_edit "$macros$one$child$two" ''
+    when edit edited.bib "$@"; ends_with 0; prints 'applied 1\n'; says_nothing; leaves "$led"
+    when undo edited.bib; ends_with 0; prints 'undone 1\n'; says_nothing; leaves "$macros$one$child$two"
+}
+leads_to "$macros$one$child@misc{A, t = 4}\n" set a,2 t 4
+leads_to "$macros@misc{a, t = 1, T = 4}\n$child$two" set a,1 t,2 4
+leads_to "$macros$one$child@misc{A, t = 3,\n  u = 4}\n" set a,2 u 4
+leads_to "$macros$one$child@misc{A}\n" drop a,2 t
+leads_to "$macros@misc{a, t = 1}\n$child$two" drop a,1 t,2
+leads_to "$macros$one$child\n" remove a,2
+leads_to "$two$macros$one$child\n" move a,2 0
+leads_to "$macros$one$two$child\n" move A,2 before:c
+leads_to "$macros$one\n$two$child" move c after:a,2
+leads_to "$macros$one$child@book{A, t = 3}\n" set-type a,2 book
+leads_to "$macros@misc{d, t = 1, T = 2}\n@misc{c, crossref = {d}}\n$two" rename-key a,1 d
+leads_to "$macros$one$child@misc{A, u = 3}\n" rename-field T u a,2
+leads_to "@string{m = {one}}\n@string{M = {x}}\n$one$child$two" set-macro m,2 '{x}'
+leads_to "\n@string{M = {two}}\n$one$child$two" undefine M,1
+leads_to "@string{m = {one}}\n\n$one$child$two" undefine m,2
+leads_to "$macros$one$child@misc{d, t = 3}\n" rename-key a,2 d
+when redo edited.bib; ends_with 0; prints 'redone 1\n'; leaves "$macros$one$child@misc{d, t = 3}\n"
+when log edited.bib; ends_with 0; prints 'done 1 1 1 rename-key a,2 d\n'
+
+# Not so many, no such number, a name that takes none, and no number where one is needed.
+given_edit "$macros$one$child$two" ''
+each_says() {
+    fault=$1
+    shift
+    for words; do
+        # shellcheck disable=SC2086
+        when edit edited.bib $words; ends_with 1; prints 'applied 0\n'; says "bibkeep: $fault"
+    done
+}
+each_says '35 NotFound' 'set a,3 t 4' 'set a,2 t,2 4' 'drop a,3 t' 'drop a,1 t,3' 'drop a,2 u' 'remove a,3' 'move a,3 0' \
+    'set-type a,3 book' 'rename-key a,3 d' 'rename-field t u a,3' 'rename-field u v a,2' 'set-macro m,3 {x}' 'undefine m,3'
+each_says '35 NotFound' 'set a,0 t 4' 'drop a,0 t' 'remove a,0' 'remove a,02' 'remove a,' 'remove a,2,2' 'remove ,2' 'remove a,1234567890' \
+    'move a,0 0' 'set-type a,0 book' 'rename-key a,0 d' 'rename-field t u a,0' 'move c after:a,3' 'add before:a,0 misc d'
+each_says '32 BadName' 'set a,1 t,0 4' 'drop a t,0' 'set-macro m,0 {x}' 'undefine m,0' 'inline m,2' 'rename-macro m,2 n' 'rename-macro m n,2' \
+    'define m,2 {x}' 'introduce n,2 two' 'rename-field t,2 u a,1' 'rename-field t u,2 a,1' 'add 0 misc d t,2 1'
+each_says '31 BadKey' 'rename-key c a,2' 'rename-key a,2 d,2' 'add 0 misc a,2'
+each_says '36 Ambiguous' 'set a t 4' 'set a t,2 4' 'set a,1 t 4' 'drop a t,2' 'drop a,1 t' 'remove a' 'move a 0' 'set-type a book' 'rename-key a d' \
+    'rename-field t u a' 'rename-field t u a,1' 'set-macro m {x}' 'undefine m' 'inline m' 'rename-macro m n'
+each_says '37 KeyInUse' 'rename-key a,2 c' 'rename-key a,2 a' 'rename-key a,1 A'
+each_says '39 Referred' 'remove a,1'
+leaves "$macros$one$child$two"
+given_edit '@string{m=1}@misc{a,t=m}@string{m=2}@misc{b,t=m}' ''
+each_says '39 Referred' 'undefine m,1' 'undefine m,2'
+given_edit '@misc{a} x @book@misc(a,t=1){b}' ''
+each_says '40 WouldMerge' 'drop a,2 t' 'remove a,2' 'move a,2 0'
+given_edit '@string{m=1}@string{m=2 # m}@misc{b,t=m}' ''
+when edit edited.bib undefine m,1; ends_with 0; prints 'applied 1\n'; says_nothing; leaves '@string{m=2 # m}@misc{b,t=m}'
+
+# After an edit the numbers are those of the new file; a script is stored whole or not at all.
+given_edit "$macros$one$child$two" 'remove\ta,2\nremove\ta,2\n'
+input=script
+when edit edited.bib --all-or-nothing; ends_with 1; prints 'applied 0\n'; says 'bibkeep: line 2: 35 NotFound'; leaves "$macros$one$child$two"
+given script 'drop\ta,1\tt,2\nset\ta,2\tt,1\t{x}\nset-macro\tM,2\t{y}\n'
+input=script
+when edit edited.bib --all-or-nothing; ends_with 0; prints 'applied 3\n'; says_nothing
+leaves "@string{m = {one}}\n@string{M = {y}}\n@misc{a, t = 1}\n$child@misc{A, t = {x}}\n"
+when undo edited.bib --steps 3; ends_with 0; prints 'undone 3\n'; leaves "$macros$one$child$two"
+
 # Only the line that was asked for differs.
 given_edit '@string{m = 1}\n@Article( a ,\n\tT = {x}  # m,\n  y="z" ,\n)\ntail @ end\n' 'set\tA\ty\t{w}\n'
 cp edited.bib before.bib

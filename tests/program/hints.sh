@@ -42,11 +42,11 @@ when_edited inline no; hinted '35 NotFound' '  hinted.bib does not define the ma
 when_edited inline jan; hinted '35 NotFound' '  hinted.bib does not define the month jan, and need not'
 when_edited introduce new none; hinted '35 NotFound' '  no value has the whole part {none}, nor the same in quotes'
 when_edited set dup t 3; hinted '36 Ambiguous' '  the key dup is that of 2 entries: lines 10 and 11
-  remove one of the two in an editor, and then type: bibkeep forget hinted.bib'
+  dup,2 is the second; to remove it, type: bibkeep edit hinted.bib remove dup,2'
 when_edited set knuth title 3; hinted '36 Ambiguous' '  the entry knuth has the field title twice: lines 5 and 6
-  remove one of the two in an editor, and then type: bibkeep forget hinted.bib'
+  title,2 is the second; to remove it, type: bibkeep edit hinted.bib drop knuth title,2'
 when_edited inline twice; hinted '36 Ambiguous' '  the macro twice is defined 2 times: lines 2 and 3
-  remove one of the two in an editor, and then type: bibkeep forget hinted.bib'
+  twice,2 is the second; to remove it, type: bibkeep edit hinted.bib undefine twice,2'
 when_edited rename-key knuth PODC; hinted '37 KeyInUse' '  the entry in line 9 has the key podc already'
 when_edited rename-key knuth nobody; hinted '37 KeyInUse' '  the crossref of orphan in line 12 names nobody, which no entry has
   the renamed entry would become its parent'
@@ -63,7 +63,7 @@ when_edited define 1x '{C}'; hinted '32 BadName' '  1x can be no name of a macro
 when_edited set-macro cup C U; hinted '71 BadScript' '  its words are: set-macro NAME VALUE
   bibkeep help edit says more'
 when_edited set-macro twice '{c}'; hinted '36 Ambiguous' '  the macro twice is defined 2 times: lines 2 and 3
-  remove one of the two in an editor, and then type: bibkeep forget hinted.bib'
+  twice,2 is the second; to remove it, type: bibkeep edit hinted.bib undefine twice,2'
 when_edited rename-field Crossref x; hinted '32 BadName' '  a crossref names a parent: no field loses this name, and none gets it'
 when_edited rename-field title 1x; hinted '32 BadName' '  1x can be no name of a field'
 when_edited rename-field x y; hinted '35 NotFound' '  no entry of hinted.bib has a field x'
@@ -71,6 +71,36 @@ when_edited rename-field title x; hinted '36 Ambiguous' '  the entry knuth in li
 when_edited rename-field x y ld86; hinted '35 NotFound' '  the entry ld86 has no field x of its own
   bibkeep show hinted.bib ld86 prints its fields; change an inherited one in the parent'
 when_edited rename-field title year podc; hinted '36 Ambiguous' '  the entry podc in line 9 would have the field year twice'
+when_edited remove dup,3; hinted '35 NotFound' '  entries of hinted.bib with the key dup: 2'
+when_edited set nobody,2 t 1; hinted '35 NotFound' "  no entry of hinted.bib has the key nobody
+  bibkeep cite hinted.bib '*' lists the keys"
+when_edited drop dup,2 note; hinted '35 NotFound' '  the entry dup,2 has no field note of its own'
+when_edited drop knuth title,3; hinted '35 NotFound' '  the entry knuth has no field title,3 of its own
+  bibkeep show hinted.bib knuth prints its fields; change an inherited one in the parent'
+when_edited set-macro twice,3 1; hinted '35 NotFound' '  definitions in hinted.bib of the macro twice: 2'
+when_edited rename-field x y dup,2; hinted '35 NotFound' '  the entry dup,2 has no field x of its own'
+when_edited rename-field t u dup,3; hinted '35 NotFound' '  entries of hinted.bib with the key dup: 2'
+when_edited drop knuth,1 title; hinted '36 Ambiguous' '  the entry knuth,1 has the field title twice: lines 5 and 6
+  title,2 is the second; to remove it, type: bibkeep edit hinted.bib drop knuth,1 title,2'
+when_edited rename-field title year podc,1; hinted '36 Ambiguous' '  the entry podc in line 9 would have the field year twice'
+when_edited remove podc,1; hinted '39 Referred' '  the crossref of ld86 in line 7 names podc
+  the crossref of ld87 in line 8 names podc
+  first type, for each of them: bibkeep edit hinted.bib drop ld87 crossref'
+when_edited undefine cup,1; hinted '39 Referred' '  a value in line 9 uses the macro cup'
+when_edited undefine twice; hinted '36 Ambiguous' '  the macro twice is defined 2 times: lines 2 and 3
+  twice,2 is the second; to remove it, type: bibkeep edit hinted.bib undefine twice,2'
+when_edited rename-field t u dup; hinted '36 Ambiguous' '  the key dup is that of 2 entries: lines 10 and 11
+  dup,2 is the second; to remove it, type: bibkeep edit hinted.bib remove dup,2'
+when_edited remove dup,0; hinted '35 NotFound' "  no entry of hinted.bib has the key dup,0
+  bibkeep cite hinted.bib '*' lists the keys"
+when_edited move knuth after:dup,3; hinted '35 NotFound' '  entries of hinted.bib with the key dup: 2'
+when_edited set knuth title,0 1; hinted '32 BadName' '  title,0 can be no name of a field'
+when_edited drop knuth title,0; hinted '32 BadName' '  title,0 can be no name of a field'
+when_edited undefine twice,0; hinted '32 BadName' '  twice,0 can be no name of a macro'
+when_edited rename-macro twice,2 new; hinted '32 BadName' '  twice,2 can be no name of a macro'
+when_edited rename-macro cup new,2; hinted '32 BadName' '  new,2 can be no name of a macro'
+when_edited rename-key dup,2 podc; hinted '37 KeyInUse' '  the entry in line 9 has the key podc already'
+when_edited rename-key dup,2 DUP; hinted '37 KeyInUse' '  the entry in line 10 has the key dup already'
 when_edited set-type knuth string; hinted '32 BadName' '  string is no type of an entry, such as book or article'
 when_edited retype knuth book; hinted '71 BadScript' '  retype is no edit
   the edits: set drop add remove move set-type rename-key rename-field rename-macro inline introduce undefine define set-macro regenerate; in a script also group end'
@@ -84,7 +114,11 @@ when cite last.bib --hints --bibtex '*'; ends_with 1; hinted '14 NotPlain at 17'
   in an entry whose key an earlier entry has: take this entry out'
 when json hinted.bib --hints --bibtex '*' nobody; ends_with 1; hinted '11 NoSuchEntry' "  no entry of hinted.bib has the key nobody
   bibkeep cite hinted.bib '*' lists the keys"
+when labels hinted.bib --hints --bibtex '*' nobody; ends_with 1; hinted '11 NoSuchEntry' "  no entry of hinted.bib has the key nobody
+  bibkeep cite hinted.bib '*' lists the keys"
 when show hinted.bib --hints --bibtex '*'; ends_with 1; hinted '11 NoSuchEntry' "  no entry of hinted.bib has the key *
+  bibkeep cite hinted.bib '*' lists the keys"
+when names hinted.bib --hints --bibtex '*' '{ll}'; ends_with 1; hinted '11 NoSuchEntry' "  no entry of hinted.bib has the key *
   bibkeep cite hinted.bib '*' lists the keys"
 when undo hinted.bib --hints; ends_with 1; hinted '51 NothingToUndo' '  bibkeep log hinted.bib lists the changes'
 
@@ -95,12 +129,13 @@ when_edited move nobody before:podc; hinted '35 NotFound' "  no entry of hinted.
   bibkeep cite hinted.bib '*' lists the keys"
 when_edited move nobody before:none; hinted '35 NotFound' "  no entry of hinted.bib has the key none
   bibkeep cite hinted.bib '*' lists the keys"
+when_edited add before:dup,3 misc new; hinted '35 NotFound' '  entries of hinted.bib with the key dup: 2'
 when_edited add before:DUP misc new; hinted '36 Ambiguous' '  the key DUP is that of 2 entries: lines 10 and 11
-  remove one of the two in an editor, and then type: bibkeep forget hinted.bib'
+  DUP,2 is the second; to remove it, type: bibkeep edit hinted.bib remove DUP,2'
 when_edited move knuth after:dup; hinted '36 Ambiguous' '  the key dup is that of 2 entries: lines 10 and 11
-  remove one of the two in an editor, and then type: bibkeep forget hinted.bib'
+  dup,2 is the second; to remove it, type: bibkeep edit hinted.bib remove dup,2'
 when_edited move dup after:knuth; hinted '36 Ambiguous' '  the key dup is that of 2 entries: lines 10 and 11
-  remove one of the two in an editor, and then type: bibkeep forget hinted.bib'
+  dup,2 is the second; to remove it, type: bibkeep edit hinted.bib remove dup,2'
 when_edited add end misc new t 1 T 2; hinted '36 Ambiguous' '  the new entry has a field twice'
 when_edited add first misc new; hinted '71 BadScript' '  its words are: add POSITION TYPE KEY FIELD VALUE ..
   a position is a number of items from 0, end, before:KEY or after:KEY
@@ -141,7 +176,7 @@ when_inserted '@misc{new}' new.bib; hinted '34 BadPosition' '  new.bib is no pos
 when_inserted '@misc{new}' after:nobody; hinted '35 NotFound' "  no entry of hinted.bib has the key nobody
   bibkeep cite hinted.bib '*' lists the keys"
 when_inserted '@misc{new}' before:dup; hinted '36 Ambiguous' '  the key dup is that of 2 entries: lines 10 and 11
-  remove one of the two in an editor, and then type: bibkeep forget hinted.bib'
+  dup,2 is the second; to remove it, type: bibkeep edit hinted.bib remove dup,2'
 given hinted_joined.bib '@misc{a}\n@book'
 given hinted.text '{b}'
 input=hinted.text; when insert hinted_joined.bib --hints; ends_with 1; hinted '40 WouldMerge' '  the text before that position and the beginning of the input would be read as an item'
@@ -223,6 +258,8 @@ when_shell_runs '"$program" check hinted.bib --hints >/dev/full'; ends_with 3; s
 # What was not refused, and does something else than it seems to do.
 when edit hinted.bib --hints --print set knuth author Knuth; ends_with 0; says "  Knuth is a macro that is not defined: the field author is empty now
   a text is written in braces: bibkeep edit hinted.bib set knuth author '{Knuth}'"
+when edit hinted.bib --hints --print set dup,2 note Knuth; ends_with 0; says "  Knuth is a macro that is not defined: the field note is empty now
+  a text is written in braces: bibkeep edit hinted.bib set dup,2 note '{Knuth}'"
 when edit hinted.bib --hints --print set knuth publisher CUP; ends_with 0; says_nothing
 when edit hinted.bib --hints --print set knuth month MAY; ends_with 0; says_nothing
 when edit hinted.bib --hints --print set knuth note '{Knuth}'; ends_with 0; says_nothing
@@ -258,7 +295,7 @@ when cite --hints hinted.bib; ends_with 2; complains_of "  a KEY is one of the f
 # No file puts a control byte into hints, nor words that a shell runs, nor long lines.
 given hostile_hints.bib '@misc{a\033[31m, t = 1}\n@misc{$(id), t = 1}\n@misc{A\033[31m, t = 2}\n'
 when edit hostile_hints.bib --hints drop "$(printf 'a\033[31m')" t; ends_with 1; hinted '36 Ambiguous' '  the key a^[[31m is that of 2 entries: lines 1 and 3
-  remove one of the two in an editor, and then type: bibkeep forget hostile_hints.bib'
+  a^[[31m,2 is the second; to remove it, type: bibkeep edit hostile_hints.bib remove KEY,2'
 when edit hostile_hints.bib --hints drop '$(id)' no; ends_with 1; hinted '35 NotFound' "  the entry \$(id) has no field no of its own
   bibkeep show hostile_hints.bib '\$(id)' prints its fields; change an inherited one in the parent"
 when edit hostile_hints.bib --hints drop "$(printf 'x\ny')" no; ends_with 1; hinted '35 NotFound' "  no entry of hostile_hints.bib has the key x^Jy

@@ -43,6 +43,8 @@ RUNS = [
     ("cite", {"bibtex": True}, ["LD86", "nobody"]),
     ("json", {"bibtex": True}, ["*"]),
     ("ris", {"bibtex": True, "plain": True}, ["*"]),
+    ("labels", {"bibtex": True}, ["*"]),
+    ("names", {"bibtex": True}, ["ld86", "{f.~}{vv~}{ll}{, jj}"]),
     ("show", {}, ["podc"]),
     ("entry", {}, ["a"]),
     ("entry", {"at": True}, ["a", "a"]),

@@ -105,6 +105,7 @@ CASES = [
     ("bibkeep extract keys.bib c\t", ["bibkeep", "extract", "keys.bib", "c:$(id>pwned):e"]),
     ("bibkeep edit keys.bib set x\t", ["bibkeep", "edit", "keys.bib", "set", "x$(id>pwned)"]),
     ("bibkeep edit keys.bib rename-key c\t", ["bibkeep", "edit", "keys.bib", "rename-key", "c:$(id>pwned):e"]),
+    ("bibkeep edit keys.bib set-type c\t", ["bibkeep", "edit", "keys.bib", "set-type", "c:$(id>pwned):e"]),
     # files
     ("bibkeep check on\t", ["bibkeep", "check", "one.bib"]),
     ("bibkeep check s\t", ["bibkeep", "check", "s p'a\"ce.bib"]),
