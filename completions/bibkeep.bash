@@ -45,10 +45,10 @@ _bibkeep() {
             check) options='--before --after --hints --help' ;;
             lint) options='--ignore --aux --before --after --hints --help' ;;
             cite) options='--min-crossrefs --strict --bibtex --aux --before --after --hints --help' ;;
-            labels) options='--depth --aux --before --after --hints --help' ;;
+            labels) options='--depth --bibtex --aux --before --after --hints --help' ;;
             json) options='--depth --raw --bibtex --aux --before --after --hints --help' ;;
-            show) options='--depth --bibtex --before --after --hints --help' ;;
-            names | newkeys) options='--depth --before --after --hints --help' ;;
+            show | names) options='--depth --bibtex --before --after --hints --help' ;;
+            newkeys) options='--depth --before --after --hints --help' ;;
             ris) options='--depth --dropped --plain --bibtex --aux --before --after --hints --help' ;;
             extract) options='--aux --before --after --hints --help' ;;
             edit) options='--print --new-journal --no-journal --all-or-nothing --hints --help' ;;
@@ -72,7 +72,7 @@ _bibkeep() {
         edit:2) _bibkeep_offer <<<"${verbs// /$'\n'}" ;;
         edit:3)
             case $verb in
-                set | drop | remove | move | rename-key) _bibkeep_offer < <(_bibkeep_keys "$file") ;;
+                set | drop | remove | move | set-type | rename-key) _bibkeep_offer < <(_bibkeep_keys "$file") ;;
                 inline | rename-macro | undefine | set-macro) _bibkeep_offer < <(_bibkeep_macros "$file") ;;
                 add) _bibkeep_offer < <(_bibkeep_positions "$file") ;;
             esac
