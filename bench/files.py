@@ -383,6 +383,11 @@ def children(count):
     return entries(count, b",crossref={p}") + b"@a{p,t=1}"
 
 
+def children_in_lines(count):
+    """So many entries of one parent, which comes last, each in a line of its own, so that BibTeX reads the same items."""
+    return b"".join(b"@misc{k%d,crossref={p}}\n" % n for n in range(count)) + b"@misc{p,t=1}\n\n"
+
+
 def at_signs(count):
     return b"@" * count
 
@@ -507,6 +512,8 @@ CONTENTS = {
     "chain 100": lambda: chain(100000),
     "ring 50": lambda: ring(50000),
     "ring 100": lambda: ring(100000),
+    "children 50": lambda: children_in_lines(50000),
+    "children 100": lambda: children_in_lines(100000),
     "faults 8": lambda: faults(8000000),
     "faults 16": lambda: faults(16000000),
     "cited 8": lambda: cited(8000000),
