@@ -383,6 +383,17 @@ def children(count):
     return entries(count, b",crossref={p}") + b"@a{p,t=1}"
 
 
+def twice(size):
+    """A database of about `size` bytes in which each entry of a library of half the size stands twice."""
+    half = library(size // 2)
+    return half + b"\n" + half
+
+
+def second_sets(count):
+    """A script that sets a field of the second of two entries with the same key, so many times."""
+    return b"".join(b"set\tkey%d,2\tnote\t{x}\n" % n for n in articles(count))
+
+
 def children_in_lines(count):
     """So many entries of one parent, which comes last, each in a line of its own, so that BibTeX reads the same items."""
     return b"".join(b"@misc{k%d,crossref={p}}\n" % n for n in range(count)) + b"@misc{p,t=1}\n\n"
@@ -512,6 +523,7 @@ CONTENTS = {
     "chain 100": lambda: chain(100000),
     "ring 50": lambda: ring(50000),
     "ring 100": lambda: ring(100000),
+    "twice 4": lambda: twice(4000000),
     "children 50": lambda: children_in_lines(50000),
     "children 100": lambda: children_in_lines(100000),
     "faults 8": lambda: faults(8000000),
