@@ -1,9 +1,9 @@
 //! The keys that an aux file cites, and the aux files that it names.
 
-ghost use Rattle.std.specs.Prelude.{◌≡◌, ◌++◌, IfOk, OnOk, not, bytes_eq};
+ghost use Rattle.std.specs.Prelude.{◌≡◌, ◌++◌, IfOk, OnOk, bytes_eq};
 ghost use Rattle.std.specs.List.{list_any};
 ghost use Rattle.bib_spec.specs.Texts.{is_empty};
-ghost use Rattle.aux_text.specs.Citations.{words_of, words_in, all_words, star, with_cited, keys_in, inputs_in};
+ghost use Rattle.aux_text.specs.Citations.{words_of, all_words, star, with_cited, keys_in, inputs_in};
 
 use crate::lines::{argument, lines_of, parts_of};
 use bib_text::{Seq, Text, copied};

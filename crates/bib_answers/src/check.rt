@@ -5,7 +5,7 @@ ghost use Rattle.bib_spec.specs.Tree.{is_comment};
 ghost use Rattle.bib_store.specs.Readings.{OfReading, IsItemNumber};
 ghost use Rattle.bib_answers.specs.Opened.{AnswersFile};
 ghost use Rattle.bib_definitions.specs.Definitions.{is_definition_tree};
-ghost use Rattle.bib_answers.specs.Check.{count_items, count_lines, all_reports, check_answer, check_answer_without};
+ghost use Rattle.bib_answers.specs.Check.{count_items, all_reports, check_answer, check_answer_without};
 ghost use Rattle.bib_answers.specs.LookedThrough.{IsFoundBefore};
 
 use crate::answers::{Answer, done};

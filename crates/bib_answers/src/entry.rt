@@ -4,7 +4,7 @@ ghost use Rattle.std.specs.Prelude.{◌≡◌, ◌<◌, ◌++◌, [], true, fals
 ghost use Rattle.std.specs.List.{cons_option, flat_map};
 ghost use Rattle.bib_spec.specs.Records.{entries_of, entry_named, cites_all};
 ghost use Rattle.bib_store.specs.Readings.{OfReading, IsEntryNumber, entry_numbers};
-ghost use Rattle.bib_answers.specs.Entry.{named_by, all_named, place_of, place_line, ended, entry_text, entry_answer};
+ghost use Rattle.bib_answers.specs.Entry.{all_named, place_of, place_line, ended, entry_text, entry_answer};
 ghost use Rattle.bib_answers.specs.Marks.{AreEntryNumbers};
 ghost use Rattle.bib_answers.specs.Opened.{AnswersFile};
 

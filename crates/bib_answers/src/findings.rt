@@ -1,13 +1,13 @@
 //! What is found in one item.
 
-ghost use Rattle.std.specs.Prelude.{◌≡◌, ◌++◌, ◌+◌, ◌∷◌, ℕ, Bool, true, List, [], if◌then◌else◌, OnOk};
+ghost use Rattle.std.specs.Prelude.{◌≡◌, ◌+◌, ◌∷◌, ℕ, true, List, [], if◌then◌else◌, OnOk};
 ghost use Rattle.std.specs.Option.{option_copied};
 ghost use Rattle.std.specs.Str.{is_utf8};
 ghost use Rattle.bib_spec.specs.Bytes.{name_limit};
 ghost use Rattle.bib_spec.specs.Text.{Text};
 ghost use Rattle.bib_spec.specs.Reading.{Item, IsValueWithin};
 ghost use Rattle.bib_spec.specs.Records.{entries_of, target};
-ghost use Rattle.bib_spec.specs.Tree.{IsTree};
+ghost use Rattle.bib_spec.specs.Tree.{IsTree, Macro};
 ghost use Rattle.bib_scan.specs.PartView.{part_view};
 ghost use Rattle.bib_scan.specs.ValueParts.{IsPartsOf};
 ghost use Rattle.bib_scan.specs.View.{field_seen, view_of};
@@ -539,7 +539,8 @@ fn add_part_uses<M: MacroTable>(
     Ok(())
 }
 
-/// Adds a wrong use of a macro, `more` bytes after the value's place.
+/// Adds a wrong use of a macro in a part `more` bytes after the value's place. Most parts are no names, and call nothing.
+#[inline(always)]
 fn add_use<M: MacroTable>(
     lines: &mut FindingLines<'_>,
     macros: &M,
@@ -552,6 +553,19 @@ fn add_use<M: MacroTable>(
     let Part::Macro(name) = part else {
         return Ok(());
     };
+    add_macro_use(lines, macros, value, more, name)
+}
+
+/// Adds a wrong use of the macro with this name, `more` bytes after the value's place.
+fn add_macro_use<M: MacroTable>(
+    lines: &mut FindingLines<'_>,
+    macros: &M,
+    value: PlacedValue<'_>,
+    more: usize,
+    name: &[u8],
+) -> Result<(), AllocError>
+    ensures { OnOk result (lines.new ≡ with_findings lines.old (use_findings (option_copied value.entry.own) (M.macros macros.now) (value.entry.at + more) (Macro name.entry.now))) }
+{
     if is_own(name, value.own) {
         return lines.add_after(Warning::OwnMacro, value.at, more, name);
     }

@@ -4,7 +4,6 @@ ghost use Rattle.std.specs.Prelude.{◌≡◌, ◌≢◌, ◌++◌, [], true, fa
 ghost use Rattle.std.specs.Option.{option_copied};
 ghost use Rattle.bib_spec.specs.Records.{entries_of, IsDepth};
 ghost use Rattle.bib_store.specs.Readings.{OfReading, IsEntryNumber};
-ghost use Rattle.entry_json.specs.EntryJson.{Told, json_line_in, is_told_utf8_in};
 ghost use Rattle.entry_json.specs.declared.fault.JsonFault.TheVariants.{Memory};
 ghost use Rattle.bib_answers.specs.Entries.{key_at};
 ghost use Rattle.bib_answers.specs.Json.{ToldIn, told_in, told_line, is_told_in_utf8, told_of, file_of, not_utf8_line, told_answer, records_answer_in};

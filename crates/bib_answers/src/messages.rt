@@ -1,6 +1,6 @@
 //! What an answer says besides its output, a line each.
 
-ghost use Rattle.std.specs.Prelude.{◌≡◌, IfOk, codes};
+ghost use Rattle.std.specs.Prelude.{◌≡◌, IfOk};
 ghost use Rattle.bib_answers.specs.Messages.{fault_name, placed_line, no_such_entry_in, refusal_line, refusal_in};
 
 use crate::lines::add_all;

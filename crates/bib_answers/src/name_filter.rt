@@ -1,7 +1,6 @@
 //! A filter of names: which names an item may have twice.
 
-ghost use Rattle.std.specs.Prelude.{◌≡◌, ◌<◌, [], length, IfOk, Some, slice_index_or};
-ghost use Rattle.bib_spec.specs.Text.{folded};
+ghost use Rattle.std.specs.Prelude.{◌≡◌, ◌<◌, [], IfOk, Some};
 ghost use Rattle.bib_answers.specs.Recurring.{hash_of, bucket_of, with_one_more};
 
 use bib_scan::Fields;

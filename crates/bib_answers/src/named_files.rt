@@ -1,6 +1,6 @@
 //! Files that are open as one, each with its name, and where a place of their bytes is.
 
-ghost use Rattle.std.specs.Prelude.{◌≡◌, ℕ, List, [], length, slice_index_or};
+ghost use Rattle.std.specs.Prelude.{◌≡◌, ℕ, List, [], slice_index_or};
 ghost use Rattle.bib_answers.specs.Lint.{name_at, place_at};
 ghost use Rattle.bib_answers.specs.NamedFiles.{NamedFiles as Files};
 ghost use Rattle.bib_answers.specs.Positions.{IsKnown, position_of};

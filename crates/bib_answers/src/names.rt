@@ -1,13 +1,13 @@
 //! `names`: the names of an entry, printed by a template.
 
-ghost use Rattle.std.specs.Prelude.{◌≡◌, ◌≢◌, ◌++◌, [], Ok, Err, map, IfOk, IfErr, OnOk, codes};
+ghost use Rattle.std.specs.Prelude.{◌≡◌, ◌≢◌, [], Ok, Err, map, IfOk, IfErr};
 ghost use Rattle.std.specs.Option.{option_map_or};
 ghost use Rattle.bib_spec.specs.Records.{entries_of, expanded, IsDepth};
 ghost use Rattle.bib_store.specs.Readings.{OfReading, IsEntryNumber};
 ghost use Rattle.bib_names.specs.declared.fault.NameFault.TheVariants.{Memory};
 ghost use Rattle.bib_answers.specs.Messages.{no_such_entry_line};
 ghost use Rattle.bib_answers.specs.Outcome.{answer_of};
-ghost use Rattle.bib_answers.specs.Names.{name_fault_name, name_fault_line, listed_in, persons, parts_in, line_of, name_line, name_lines, lines_of, lines_answer, record_answer, names_answer, Spells, IsNamesAnswer, AnswersNames};
+ghost use Rattle.bib_answers.specs.Names.{name_fault_name, listed_in, persons, parts_in, line_of, name_line, name_lines, lines_of, lines_answer, record_answer, names_answer, Spells, IsNamesAnswer, AnswersNames};
 
 use crate::answers::{Answer, done, no_such_entry, refused};
 use crate::opening::answer_file;

@@ -1,17 +1,18 @@
 //! What is wrong with one item, a line each.
 
-ghost use Rattle.std.specs.Prelude.{◌≡◌, ◌++◌, ◌∷◌, ℕ, Bool, List, [], OnOk};
+ghost use Rattle.std.specs.Prelude.{◌≡◌, ◌++◌, ◌∷◌, List, [], OnOk};
 ghost use Rattle.std.specs.Option.{option_copied};
 ghost use Rattle.bib_spec.specs.Bytes.{name_limit};
 ghost use Rattle.bib_spec.specs.Text.{Text, folded};
 ghost use Rattle.bib_spec.specs.Reading.{IsValueWithin};
 ghost use Rattle.bib_spec.specs.Records.{entries_of, is_repeated};
+ghost use Rattle.bib_spec.specs.Tree.{Macro};
 ghost use Rattle.bib_scan.specs.PartView.{part_view};
 ghost use Rattle.bib_scan.specs.ValueParts.{IsPartsOf};
 ghost use Rattle.bib_value.specs.Macros.{is_own};
 ghost use Rattle.bib_value.specs.Raw.{OfValue};
 ghost use Rattle.bib_store.specs.Readings.{OfReading, IsItemNumber};
-ghost use Rattle.bib_answers.specs.Check.{Assigned, report, report_both, use_report, use_reports, defined_in, extra_report, field_reports, of_entry, repeated_report, target_report, crossref_report, entries_before, reports_on};
+ghost use Rattle.bib_answers.specs.Check.{Assigned, report, report_both, use_report, use_reports, defined_in, extra_report, field_reports, repeated_report, target_report, crossref_report, entries_before, reports_on};
 ghost use Rattle.bib_answers.specs.Fields.{Views, IsKeyOf, AreFieldsOf, AreSound};
 ghost use Rattle.bib_answers.specs.Recurring.{AreTold};
 ghost use Rattle.bib_answers.specs.Seen.{HaveSeen};
@@ -171,6 +172,8 @@ fn add_part_uses<M: MacroTable>(
     Ok(())
 }
 
+/// Adds the report on a part. Most parts are no names, and call nothing.
+#[inline(always)]
 fn add_use<M: MacroTable>(
     out: &mut Vec<u8>,
     part: Part<'_>,
@@ -182,6 +185,18 @@ fn add_use<M: MacroTable>(
     let Part::Macro(name) = part else {
         return Ok(());
     };
+    add_macro_use(out, name, macros, own)
+}
+
+/// Adds the report on a part that is this name.
+fn add_macro_use<M: MacroTable>(
+    out: &mut Vec<u8>,
+    name: &[u8],
+    macros: &M,
+    own: Option<&[u8]>,
+) -> Result<(), AllocError>
+    ensures { OnOk result (out.new.items ≡ out.old.items ++ use_report (option_copied own.entry) (M.macros macros.now) (Macro name.entry.now)) }
+{
     if is_own(name, own) {
         return add_report(out, b"own macro", name);
     }

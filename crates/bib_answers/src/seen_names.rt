@@ -18,11 +18,15 @@ const FEW: usize = 64;
 /// How many bytes of an item there are for each bucket of its filter.
 const BYTES_A_BUCKET: usize = 2;
 
-/// Whether two names are the same, folded. Most names differ in their first byte, and of these no other byte is looked at.
+/// Whether two names are the same, folded. Most names differ in their length or in their first byte, and of these no other byte is
+/// looked at.
 #[inline(always)]
 fn is_same(name: &[u8], other: &[u8]) -> bool
     ensures { result ≡ same name.now other.now }
 {
+    if name.len() != other.len() {
+        return false;
+    }
     match (name, other) {
         ([a, ..], [b, ..]) if !a.eq_ignore_ascii_case(b) => false,
         _ => same_folded(name, other),
@@ -107,11 +111,11 @@ impl<'a> SeenNames<'a> {
         false
     }
 
-    /// Whether the name is in the map.
+    /// Whether the name is in the map. Most items have few names and an empty map, for which the name is not folded.
     fn is_other(&self, name: &[u8]) -> bool
         ensures { result ≡ is_other self.now.others name.now }
     {
-        self.others.get(name).is_some()
+        self.others.len() > 0 && self.others.get(name).is_some()
     }
 
     /// Adds the name to those that were seen.

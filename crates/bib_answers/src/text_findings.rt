@@ -1,6 +1,6 @@
 //! What is found in the text of a field.
 
-ghost use Rattle.std.specs.Prelude.{◌≡◌, ◌≤◌, true, [], length, IsTrue, IfOk, IfSome, OnOk};
+ghost use Rattle.std.specs.Prelude.{◌≡◌, ◌<◌, true, [], IsTrue, IfOk, IfSome, OnOk};
 ghost use Rattle.std.specs.List.{count_by};
 ghost use Rattle.std.specs.Str.{is_utf8};
 ghost use Rattle.bib_spec.specs.Bytes.{name_limit};
@@ -23,9 +23,6 @@ use bib_text::Text;
 use bib_value::{MacroTable, field_text, raw_text};
 use std::alloc::{AllocError, Global};
 use std::str;
-
-/// How many bytes a run has at most: a count of some of them fits a byte, and the processor counts 32 at once.
-const RUN: usize = 224;
 
 /// Adds what is found in the text of a field of an entry whose value uses no macro. It takes time in the value's length. Most values
 /// are plain, and are not taken apart. If the field is known to be ASCII, it is not read for that.
@@ -132,35 +129,18 @@ pub fn is_utf8(bytes: &[u8]) -> bool
 pub fn is_ascii(text: &[u8]) -> bool
     ensures { IsTrue result → count_by is_other text.now ≡ 0 }
 {
-    other_count(text) == 0
+    greatest(text).is_ascii()
 }
 
-/// How many bytes are not ASCII. They are counted run by run: while a count fits a byte, the processor counts many bytes at once.
-fn other_count(text: &[u8]) -> usize
-    ensures { result ≡ count_by is_other text.now }
+/// The greatest of the bytes, or 0 if there are none. The processor compares many bytes at once.
+fn greatest(text: &[u8]) -> u8
+    ensures { result < 128 → count_by is_other text.now ≡ 0 }
 {
-    let mut count = 0;
-    let mut rest = text;
-    'runs: while rest.len() > RUN {
-        let (run, more) = rest.split_at(RUN);
-        count += usize::from(count_in_run(run));
-        rest = more;
+    let mut greatest: u8 = 0;
+    'bytes: for byte in text {
+        greatest = greatest.max(*byte);
     }
-    count + usize::from(count_in_run(rest))
-}
-
-/// How many bytes of a run are not ASCII.
-fn count_in_run(run: &[u8]) -> u8
-    requires { length run.now ≤ 255 }
-    ensures { result ≡ count_by is_other run.now }
-{
-    let mut count = 0;
-    'bytes: for byte in run {
-        if !byte.is_ascii() {
-            count += 1;
-        }
-    }
-    count
+    greatest
 }
 
 /// Whether nothing can be found in the text of a field with this name and these bytes of its value, whatever macros say: name and

@@ -1,6 +1,6 @@
 //! What `lint` warns of: each kind of finding, with its code and its words.
 
-ghost use Rattle.std.specs.Prelude.{◌≡◌, codes};
+ghost use Rattle.std.specs.Prelude.{◌≡◌};
 ghost use Rattle.bib_answers.specs.Warnings.{code_of, words_before, words_after};
 
 /// A kind of finding.

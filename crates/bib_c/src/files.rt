@@ -1,6 +1,6 @@
 //! A command over several files that are read as one, on the state that is behind a handle.
 
-ghost use Rattle.std.specs.Prelude.{◌↔◌, IsTrue, List, Some};
+ghost use Rattle.std.specs.Prelude.{◌↔◌, IsTrue, Some};
 ghost use Rattle.bib_c.specs.Asking.{asked_among};
 ghost use Rattle.bib_c.specs.Words.{words_of};
 ghost use Rattle.bib_c.specs.Calls.{IsOverFiles, RunsFiles};

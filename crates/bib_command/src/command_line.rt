@@ -1,6 +1,6 @@
 //! The commands and their words, and what help says of each.
 
-ghost use Rattle.std.specs.Prelude.{◌≡◌, IfOk, codes};
+ghost use Rattle.std.specs.Prelude.{IfOk, codes};
 ghost use Rattle.clap.specs.Words.{App, new_app};
 ghost use Rattle.bib_command.specs.Lines.{Reads};
 ghost use Rattle.bib_command.specs.CommandLine.{adds, over_file, over_files, cat_line, check_line, lint_line, show_line, cited_line, entry_line, cite_line, edit_or_print_line, json_line, keys_line, labels_line, names_line, newkeys_line, edit_line, insert_line, steps_line, ris_line, import_texts_line, import_line, merge_line, diff_line, explain_line, bibkeep_top, bibkeep_shows, bibkeep_makes, bibkeep_edits, bibkeep};

@@ -1,6 +1,6 @@
 //! The text that the user gets if no command runs.
 
-ghost use Rattle.std.specs.Prelude.{◌≡◌, [], ◌⊎◌, IsTrue, ◌↔◌, ◌≢◌};
+ghost use Rattle.std.specs.Prelude.{◌≡◌, ◌⊎◌};
 ghost use Rattle.clap.specs.Words.{kind_of};
 ghost use Rattle.bib_command.specs.Usage.{IsUsageOf, no_memory};
 

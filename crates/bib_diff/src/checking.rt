@@ -1,6 +1,6 @@
 //! Whether requests lead from one file to another.
 
-ghost use Rattle.std.specs.Prelude.{◌≡◌, true, All, IfOk, OnOk, None, length};
+ghost use Rattle.std.specs.Prelude.{◌≡◌, true, All, IfOk, OnOk, None};
 ghost use Rattle.bib_data.specs.Depths.{HasDepth, AsksWithDepth};
 ghost use Rattle.bib_journal.specs.Session.{DoesAll};
 ghost use Rattle.diff_spec.specs.Agreement.{FilesAgree};
@@ -11,7 +11,7 @@ use crate::fault::Stop;
 use crate::looking::entry;
 use crate::trying::lost;
 use bib_data::{Edit, Request};
-use bib_journal::{Performed, Session, SessionFault, perform};
+use bib_journal::{Session, SessionFault, perform};
 use bib_store::{Database, Paged};
 use bib_text::Seq;
 use std::alloc::Global;

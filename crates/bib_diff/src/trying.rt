@@ -6,7 +6,7 @@ use crate::fault::Stop;
 use bib_data::{Edit, Request};
 use bib_journal::{Session, SessionFault};
 use bib_store::{Database, Paged};
-use bib_text::{Text, copied};
+use bib_text::copied;
 use std::alloc::Global;
 
 /// A session, and the edits that it accepted.

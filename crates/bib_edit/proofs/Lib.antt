@@ -99,6 +99,7 @@ pub mod DroppedOne
 -- ---- one of several: keys and places
 pub mod PlannedPieces
 pub mod FirstNumbers
+pub mod NthHolders
 pub mod LaterKeys
 pub mod RekeyedOne
 pub mod MovedOne

@@ -14,7 +14,8 @@ pub named-is-zeroth : (text : Text) (keys : List Text) → first_named text keys
 named-is-zeroth text [] = refl
 named-is-zeroth text (key ∷ keys) = ap (λ o. if is_named text key then Some 0 else option_map suc o) (named-is-zeroth text keys)
 
-abbrev entries_to : Reading → ℕ → ℕ
+-- how many entries come before an item
+abbrev pub entries_to : Reading → ℕ → ℕ
 entries_to db n = length (gathered entry_in months (take n db.items))
 
 -- the number among the entries of the first that the key names

@@ -1,11 +1,11 @@
 -- How many items are before the entry that is meant, and how many entries are.
-use Rattle.bib_edit.proofs.Words.{◌≡◌, ◌<◌, ◌≤◌, ℕ, false, true, refl, Option, Some, None, is_some, if◌then◌else◌, length, sym, ◌∙◌, ap, arith, subst, ⊎_elim, cases_Bool, cond-true, cond-false, Text, Reading, holders, is_entry, item_named, IsHolderFault}
+use Rattle.bib_edit.proofs.Words.{◌≡◌, ◌<◌, ◌≤◌, ℕ, false, true, refl, Option, Some, None, is_some, if◌then◌else◌, length, sym, ◌∙◌, arith, subst, ⊎_elim, cases_Bool, cond-true, cond-false, Text, Reading, holders, is_entry, IsHolderFault}
 use Rattle.std.proofs.Common.{unwrap_or}
-use Rattle.edit_spec.specs.Edits.{Which, item_meant}
+use Rattle.edit_spec.specs.Edits.{item_meant}
 use Rattle.bib_edit.specs.Numbers.{is_numbered, which_of}
 use Rattle.bib_edit.specs.Positions.{items_before, items_before_meant, count_meant, IsCountFault}
 use Rattle.bib_edit.specs.declared.fault.EditFault.{EditFault}
-use Rattle.bib_edit.proofs.EntryPlaces.{before-named, before-within}
+use Rattle.bib_edit.proofs.EntryPlaces.{before-within}
 use Rattle.bib_edit.proofs.MeantItems.{meant-within}
 
 module _ (key : Text) (db : Reading) where

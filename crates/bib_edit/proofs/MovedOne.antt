@@ -1,6 +1,6 @@
 -- Why a move of one entry among several is refused, and that it is not.
 use Rattle.bib_edit.proofs.Words.{◌≡◌, ◌≤◌, ◌<◌, ◌+◌, ◌-◌, ◌||◌, ℕ, Bool, true, false, List, Some, None, is_some, option_map, length, take, sym, ◌∙◌, ap, refl, ◌∷◌, subst, arith, cond-true, cond-false, true≢false, both_ways, All-nil, name_limit, file_limit, Text, EntryTree, IsTree, IsItem, IsValue, Item, Reading, Reads, months, gathered, entry_in, too_long_at, entries_of, BadKey, BadName, BadValue, BadPosition, NotFound, Ambiguous, KeyInUse, NameInUse, Referred, WouldMerge, FileTooLong, TextTooLong}
-use Rattle.bib_edit.proofs.Words.{Piece, Kept, holders, in_line, with_item, last_position, kept_items, IsAccepted, IsFirstRefusal, edited, pieces_of, pieces_of_chunks, made_base, HasCleanTexts, Field, fields_of, JoinsCleanly, next_item, moved_pieces, IsFieldLong, FieldsHaveValues, olds_len, news_len}
+use Rattle.bib_edit.proofs.Words.{Piece, Kept, holders, in_line, with_item, last_position, kept_items, IsAccepted, IsFirstRefusal, edited, pieces_of, pieces_of_chunks, made_base, HasCleanTexts, fields_of, JoinsCleanly, next_item, moved_pieces, IsFieldLong, FieldsHaveValues, olds_len, news_len}
 use Rattle.std.specs.Option.{option_map_or}
 use Rattle.bib_store.proofs.KeptItems.{item_in}
 use Rattle.edit_spec.specs.Edits as edits

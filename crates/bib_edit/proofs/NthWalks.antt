@@ -11,7 +11,7 @@ pub from_start : (o : Option ℕ) → o ≡ after 0 o
 from_start None = refl
 from_start (Some m) = ap Some (omega arith)
 
-one_later : (n : ℕ) (o : Option ℕ) → after n (option_map suc o) ≡ after (n + 1) o
+pub one_later : (n : ℕ) (o : Option ℕ) → after n (option_map suc o) ≡ after (n + 1) o
 one_later n None = refl
 one_later n (Some m) = ap Some (omega arith)
 

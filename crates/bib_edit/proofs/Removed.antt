@@ -1,5 +1,5 @@
 -- Why a removal is refused, and that it is not.
-use Rattle.std.proofs.Common.{false, true}
+use Rattle.std.proofs.Common.{false}
 use Rattle.bib_edit.proofs.Words.{◌≡◌, ℕ, ◌<◌, [], ◌∷◌, refl, sym, ◌∙◌, arith, true≢false, both_ways, All-nil, name_limit, Text, IsValue, Reading, months, Opens, entries_of, RemoveEntry, BadKey, BadName, BadValue, BadPosition, NotFound, Ambiguous, KeyInUse, NameInUse, Referred, WouldMerge}
 use Rattle.bib_edit.proofs.Words.{FileTooLong, TextTooLong, holders, is_entry, remove_entry, IsReferred, IsAccepted, IsFirstRefusal, pieces_of, made_base, IsRefusal, IsHeldAt, IsHolderFault, none_holds, many_hold, JoinsCleanly, removal_of}
 use Rattle.bib_data.specs.declared.edit.Edit.TheVariants as asked

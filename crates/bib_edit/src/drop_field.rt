@@ -1,7 +1,6 @@
 //! Takes a field out of an entry.
 
-ghost use Rattle.std.specs.Prelude.{◌≡◌, ◌&&◌, ◌==◌, ◌+◌, ◌≤◌, ◌<◌, ◌^◌, [], ◌∷◌, length, drop, bytes_eq, OnOk, IfOk, IfErr, false, ◌||◌};
-ghost use Rattle.bib_spec.specs.Bytes.{close_paren};
+ghost use Rattle.std.specs.Prelude.{◌≡◌, ◌&&◌, ◌==◌, ◌+◌, ◌≤◌, ◌<◌, ◌^◌, length, OnOk, IfOk, IfErr, false, ◌||◌};
 ghost use Rattle.bib_scan.specs.View.{field_seen};
 ghost use Rattle.bib_edit.specs.Numbers.{is_numbered};
 ghost use Rattle.bib_edit.specs.Planning.{IsAllowedEdit, ArePiecesOf, IsRefusal};

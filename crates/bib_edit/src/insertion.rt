@@ -12,7 +12,6 @@ use crate::fault::EditFault;
 use crate::limits::is_file_too_long;
 use crate::new_entries::put_in;
 use crate::taking_out::continues_cleanly;
-use bib_scan::one_reading;
 use bib_store::{Database, ItemList, Piece};
 use bib_text::{Seq, Text};
 use std::alloc::Global;

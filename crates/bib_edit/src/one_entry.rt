@@ -3,10 +3,9 @@
 ghost use Rattle.std.specs.Prelude.{◌≡◌, ◌↔◌, ◌<◌, ◌^◌, ◌||◌, IsTrue, Some, true, option_map, OnOk, IfOk, IfErr, IfSome};
 ghost use Rattle.std.specs.List.{list_any};
 ghost use Rattle.std.specs.Option.{IfNone};
-ghost use Rattle.bib_spec.specs.Reading.{Item};
-ghost use Rattle.bib_spec.specs.Records.{entries_of, entry_named, is_named, keys_of};
+ghost use Rattle.bib_spec.specs.Records.{entries_of, entry_named, keys_of};
 ghost use Rattle.bib_spec.specs.Text.{is_new_key, same};
-ghost use Rattle.bib_scan.specs.View.{field_seen, view_of};
+ghost use Rattle.bib_scan.specs.View.{field_seen};
 ghost use Rattle.edit_spec.specs.Edits.{SetsField, DropsField, RenamesFields, SetsType, RenamesKey, Removes, Moves, nth_of, item_meant, is_entry, is_unclear, holders, last_position, IsParentMeant};
 ghost use Rattle.bib_store.specs.Readings.{OfReading};
 ghost use Rattle.bib_tokens.specs.FirstItem.{first_item};
@@ -34,44 +33,17 @@ use crate::set_field::{row_text, rows_end};
 use crate::set_type::typing;
 use crate::taking_out::{joins_cleanly, removal_of};
 use crate::values::value_parts;
-use bib_scan::{FieldView, ItemView, Kind, is_key, is_name, is_type, one_reading};
+use bib_scan::{FieldView, ItemView, is_key, is_name, is_type, one_reading};
 use bib_store::{Database, ItemList, Piece};
 use bib_text::{Seq, copied, same_folded};
 use std::alloc::Global;
 
-/// Whether the key has this name, folded. No name is that of the empty key.
-fn has_name(key: &[u8], name: &[u8]) -> bool
-    ensures { result ≡ is_named name.now key.now }
-{
-    !key.is_empty() && same_folded(key, name)
-}
-
-/// Whether the item is an entry that the key names.
-fn is_entry(view: &ItemView<'_>, name: &[u8]) -> bool
-    ensures { (i : Item) → view.now ≡ view_of i → result ≡ is_entry name.now i.tree }
-{
-    match view.kind() {
-        Kind::Entry => has_name(view.key(), name),
-        Kind::Macro | Kind::Preamble | Kind::Comment => false,
-    }
-}
-
-/// The number of the item that is the one with this number among the entries that have the key. It looks at each item up to that
-/// one.
+/// The number of the item that is the one with this number among the entries that have the key. It takes time in the key's length.
 fn nth_entry<L: ItemList>(db: &Database<L>, name: &[u8], number: usize) -> Option<usize>
     ensures { OfReading db.now (λ r. result ≡ nth_of (λ item. is_entry name.now item.tree) number r.items) }
 {
-    db.opens();
-    let mut left = number;
-    'items: for n in 0..db.item_count() {
-        if is_entry(&db.item(n), name) {
-            if left == 0 {
-                return Some(n);
-            }
-            left -= 1;
-        }
-    }
-    None
+    let m = db.nth_holder(name, number)?;
+    Some(db.entry_item(m))
 }
 
 /// The number of the item that is the entry that is meant.

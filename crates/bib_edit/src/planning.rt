@@ -26,7 +26,8 @@ use std::alloc::Global;
 /// places; new keys for all entries take time in the length of the file, old and new. So does an edit of macros, unless
 /// `Database::note_parts` was called before: then it takes time in the length of the pages of items that have what it
 /// seeks. An edit that gives a macro a value takes time and memory as opening the file does, if an item after the definition
-/// uses the macro or the value's text is too long. Want of memory may come before any other reason. An edit
+/// uses the macro or the value's text is too long. A change of one of several definitions of a macro looks at each item up to
+/// that one. Want of memory may come before any other reason. An edit
 /// that makes keys has a depth of 1 to `bib_data::DEPTH_LIMIT`. (dialect)
 pub fn plan<L: ItemList>(
     alloc: Global,

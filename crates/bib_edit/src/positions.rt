@@ -46,8 +46,7 @@ fn place_after<L: ItemList>(db: &Database<L>, key: &[u8]) -> Result<usize, EditF
 }
 
 /// The place that a position says: how many items are before it. It is refused if no entry has the key of the position, or
-/// several have it and no number tells which is meant. It takes a look-up of the key, and with a number a pass over the
-/// items. (dialect)
+/// several have it and no number tells which is meant. It takes a look-up of the key. (dialect)
 pub fn place_of<L: ItemList>(db: &Database<L>, position: &Position) -> Result<usize, EditFault>
     ensures place { IfOk result (IsPositionPlace db.now position.now) }
     ensures refused { IfErr result (IsPositionRefusal db.now position.now) }

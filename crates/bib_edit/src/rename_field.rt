@@ -4,7 +4,7 @@ ghost use Rattle.std.specs.Prelude.{◌≡◌, ◌≤◌, ◌<◌, ◌+◌, ◌^
 ghost use Rattle.std.specs.List.{list_any};
 ghost use Rattle.bib_spec.specs.Text.{is_name, same};
 ghost use Rattle.bib_spec.specs.Records.{crossref};
-ghost use Rattle.bib_scan.specs.View.{field_seen, view_of};
+ghost use Rattle.bib_scan.specs.View.{field_seen};
 ghost use Rattle.bib_scan.specs.Layout.{start_of};
 ghost use Rattle.bib_store.specs.Readings.{OfReading, IsItemNumber};
 ghost use Rattle.bib_tokens.specs.PlacedParts.{tokens_seen};

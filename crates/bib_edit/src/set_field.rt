@@ -1,6 +1,6 @@
 //! Sets a field of an entry.
 
-ghost use Rattle.std.specs.Prelude.{◌≡◌, ◌++◌, ◌<◌, ◌≤◌, ◌^◌, ◌⊎◌, None, count_by, OnOk, IfOk, IfErr, false, ◌||◌};
+ghost use Rattle.std.specs.Prelude.{◌≡◌, ◌<◌, ◌≤◌, ◌^◌, ◌⊎◌, None, count_by, OnOk, IfOk, IfErr, false, ◌||◌};
 ghost use Rattle.std.specs.List.{last_or};
 ghost use Rattle.std.specs.Option.{option_map};
 ghost use Rattle.bib_scan.specs.View.{field_seen};

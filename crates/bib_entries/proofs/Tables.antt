@@ -20,7 +20,7 @@ use Rattle.bib_order.specs.Holders.{holders}
 use Rattle.bib_index.specs.KeyIndex.{is_text, has_text, with_text, IsIndexOf, ids_in}
 use Rattle.bib_index.proofs.Holding.{parts, texts_follow, with_same, with_other}
 use Rattle.bib_order.proofs.Counting.{lacks_at}
-use Rattle.bib_entries.specs.EntryTable.{Kept, name_of, named_by, crossref_of, AreNamed, IsTableOf, refers, IsIndexWith, StaysIndex, GivesCrossref, HaveTheSame}
+use Rattle.bib_entries.specs.EntryTable.{Kept, name_of, named_by, crossref_of, AreNamed, IsTableOf, numbers_having, refers, IsIndexWith, StaysIndex, GivesCrossref, HaveTheSame}
 
 -- ---- lists
 
@@ -458,16 +458,22 @@ module _ (key : Text) (keys : List Text) (crossrefs : List (Option Text)) (t : K
   tests : map has_key t.ids ≡ map (is_named key) keys
   tests = let keyed = is.keyed in tests_keys keyed.names key t.ids keys keyed.named
 
-  at_first : slice_get (ids_in t.keys (folded key)) 0 ≡ slice_get (holders has_key t.ids) 0
-  at_first = let keyed = is.keyed in ap (λ (ids : List ℕ). slice_get ids 0) (keyed.index (folded key))
+  at_number : (k : ℕ) → slice_get (ids_in t.keys (folded key)) k ≡ slice_get (holders has_key t.ids) k
+  at_number k = let keyed = is.keyed in ap (λ (ids : List ℕ). slice_get ids k) (keyed.index (folded key))
+
+  pub nth_found : (k id : ℕ) (found : Option ℕ) → IsDistinct t.ids → slice_get (ids_in t.keys (folded key)) k ≡ Some id
+      → IfSome found (λ n. slice_get t.ids n ≡ Some id) → IfNone found (Lacks t.ids id) → found ≡ slice_get (numbers_having key keys) k
+  nth_found k id found distinct held at none = position_found has_key (is_named key) t.ids keys k found id tests distinct (sym (at_number k) ∙ held) at none
+
+  pub none_nth : (k : ℕ) → slice_get (ids_in t.keys (folded key)) k ≡ None → None ≡ slice_get (numbers_having key keys) k
+  none_nth k none = sym (none_found has_key (is_named key) 0 t.ids keys k tests (sym (at_number k) ∙ none))
 
   pub first_found : (id : ℕ) (found : Option ℕ) → IsDistinct t.ids → slice_get (ids_in t.keys (folded key)) 0 ≡ Some id
       → IfSome found (λ n. slice_get t.ids n ≡ Some id) → IfNone found (Lacks t.ids id) → found ≡ first_named key keys
-  first_found id found distinct first at none =
-      position_found has_key (is_named key) t.ids keys 0 found id tests distinct (sym at_first ∙ first) at none ∙ first_numbered key keys
+  first_found id found distinct first at none = nth_found 0 id found distinct first at none ∙ first_numbered key keys
 
   pub none_first : slice_get (ids_in t.keys (folded key)) 0 ≡ None → None ≡ first_named key keys
-  none_first none = sym (none_found has_key (is_named key) 0 t.ids keys 0 tests (sym at_first ∙ none)) ∙ first_numbered key keys
+  none_first none = none_nth 0 none ∙ first_numbered key keys
 
   pub holders_counted : length (ids_in t.keys (folded key)) ≡ count_by (is_named key) keys
   holders_counted = let keyed = is.keyed in ap (length {A = ℕ}) (keyed.index (folded key)) ∙ all_counted has_key (is_named key) t.ids keys tests

@@ -43,7 +43,11 @@ pub record IsTableOf (keys : List Text) (crossrefs : List (Option Text)) (t : Ke
   pub referring : AreNamed (map named_by crossrefs) t.ids t.referring
   pub said : map (crossref_of t.crossrefs) t.ids ≡ crossrefs
 
--- ---- what crossrefs name
+-- ---- what keys and crossrefs name
+
+-- the numbers of the entries that have the key, in order
+abbrev pub numbers_having : Text → List Text → List ℕ
+numbers_having key keys = map (λ p. p.0) (filter (λ p. is_named key p.1) (enumerate_from 0 keys))
 
 -- the crossref text names the key
 abbrev pub refers : Text → Option Text → Bool

@@ -123,7 +123,7 @@ impl EntryTable {
     ghost use Rattle.bib_spec.specs.Bytes.{name_limit};
     ghost use Rattle.bib_spec.specs.Text.{Text as Bytes};
     ghost use Rattle.bib_spec.specs.Records.{is_named, first_named};
-    ghost use Rattle.bib_entries.specs.EntryTable.{IsTableOf, SaysTheSame, AreApart, name_of, named_by, referrers, IsIndexWith, StaysIndex, GivesCrossref, HaveTheSame};
+    ghost use Rattle.bib_entries.specs.EntryTable.{IsTableOf, SaysTheSame, AreApart, name_of, named_by, numbers_having, referrers, IsIndexWith, StaysIndex, GivesCrossref, HaveTheSame};
     ghost use Rattle.bib_index.specs.KeyIndex.{IsIndexOf, ids_in};
 
     /// The table of no entries. It asks for no memory.
@@ -202,6 +202,19 @@ impl EntryTable {
             first,
             count: ids.len(),
         })
+    }
+
+    /// The number of entry `k`, counted from 0, among those that have this key, folded, in order. It takes time in the key's
+    /// length.
+    pub fn nth_holder(&self, key: &[u8], k: usize) -> Option<usize>
+        ensures { (keys : List Bytes) (crossrefs : List (Option Bytes)) → IsTableOf keys crossrefs self.now → result ≡ slice_get (numbers_having key.now keys) k }
+    {
+        // for the proof: the ids of an order are distinct
+        let _ = self.order.count();
+        match self.keys.holders(key).get(k) {
+            Some(id) => self.order.position_of(*id),
+            None => None,
+        }
     }
 
     /// Whether it is known that no two entries have the same key, folded. Once two entries have had the same key, this is

@@ -1,5 +1,5 @@
 -- Marks of entries, along a line of parents.
-use Rattle.std.proofs.Common.{◌≡◌, ◌≢◌, ℕ, ◌<◌, ◌≤◌, ◌+◌, ◌==◌, ◌||◌, ◌∷◌, [], zero, suc, if◌then◌else◌, ◌⊎◌, Bool, true, false, not, List, length, set, get_or, count_by, Option, Some, None, All, ⊎_elim, inl, inr, refl, sym, ◌∙◌, ap, subst, arith, eq-eqb, not-suc-le-zero, le_of_suc-le-suc}
+use Rattle.std.proofs.Common.{◌≡◌, ◌≢◌, ℕ, ◌<◌, ◌≤◌, ◌+◌, ◌==◌, ◌||◌, ◌∷◌, [], zero, suc, if◌then◌else◌, ◌⊎◌, Bool, true, false, not, List, length, set, get_or, count_by, Some, None, ⊎_elim, inl, inr, refl, sym, ◌∙◌, ap, subst, arith, eq-eqb, not-suc-le-zero, le_of_suc-le-suc}
 use Rattle.std.proofs.lemmas.Bool.{cases_Bool, eqb-true, eqb-false, false≢true}
 use Rattle.std.proofs.lemmas.List.{get_or-set_same, get_or-set_other}
 use Rattle.std.proofs.lemmas.List.Sums.{sum_by-set}

@@ -1,5 +1,5 @@
 -- The names that are still to be defined, as items are passed from the last to the first.
-use Rattle.std.proofs.Common.{◌≡◌, ℕ, zero, suc, ◌+◌, ◌||◌, if◌then◌else◌, Bool, true, false, not, List, [], ◌∷◌, ◌++◌, Option, None, Some, is_some, map, filter, slice_get, length, bytes_eq, drop, All, ⊎_elim, refl, sym, ◌∙◌, ap, ap₂, subst, arith, append-nil, ◌≤◌}
+use Rattle.std.proofs.Common.{◌≡◌, ℕ, zero, suc, ◌+◌, ◌||◌, if◌then◌else◌, Bool, true, false, not, List, [], ◌∷◌, ◌++◌, Option, None, Some, is_some, map, slice_get, length, bytes_eq, drop, All, ⊎_elim, refl, sym, ◌∙◌, ap, subst, append-nil, ◌≤◌}
 use Rattle.std.proofs.lemmas.List.{drop_all}
 use Rattle.std.proofs.lemmas.Option.{none-some, same_Some}
 use Rattle.bib_extract.proofs.WrittenItems.{drop-next}
@@ -10,16 +10,16 @@ use Rattle.std.specs.List.{flat_map, list_any}
 use Rattle.std.proofs.lemmas.Bool.{cases_Bool, cond-true, cond-false, false≢true}
 use Rattle.std.proofs.lemmas.List.Elements.{All-head, All-tail}
 use Rattle.std.proofs.lemmas.List.Folds.{list_any-append}
-use Rattle.bib_spec.specs.Bytes.{name_limit, comma}
+use Rattle.bib_spec.specs.Bytes.{name_limit}
 use Rattle.bib_spec.specs.Text.{Text, folded, same}
-use Rattle.bib_spec.specs.Tree.{Part, Braced, Quoted, Digits, Macro, Value, Link, IsLink, Row, Tree, CommentTree, DefinitionTree, PreambleTree, EntryTree, IsTree, IsRow, IsValue, IsPart, value_bytes, row_bytes, opening_bytes}
+use Rattle.bib_spec.specs.Tree.{Part, Macro, Value, Link, IsLink, Row, Tree, CommentTree, DefinitionTree, PreambleTree, EntryTree, IsTree, IsRow, IsValue, IsPart, row_bytes, opening_bytes}
 use Rattle.bib_spec.specs.Texts.{parts_of, values_of}
 use Rattle.bib_spec.proofs.Names.{eq-true}
 use Rattle.bib_scan.specs.declared.view.Kind.TheVariants as kind
 use Rattle.bib_scan.specs.View.{kind_of, Field, fields_after, fields_of}
 use Rattle.bib_value.specs.Raw.{OfValue}
 use Rattle.folded_map.specs.FoldedMap.{value_at, IsWith, IsWithout}
-use Rattle.extract_spec.specs.Extract.{name_in, names_in, without, without_defined, used_by, names_before, stays}
+use Rattle.extract_spec.specs.Extract.{name_in, names_in, without, without_defined, names_before, stays}
 use Rattle.bib_extract.specs.Awaited.{Map, has, HasNames, Gains, GainsFrom, HaveValues}
 
 -- ---- one name

@@ -1,5 +1,5 @@
 -- The walk over the items, from the last to the first.
-use Rattle.std.proofs.Common.{◌≡◌, ℕ, zero, suc, ◌+◌, ◌<◌, ◌≤◌, Bool, true, false, List, [], ◌∷◌, ◌++◌, Some, slice_get, length, drop, set, refl, sym, ◌∙◌, ap, ap₂, subst, arith, add-zero, ◌-◌, ◌≢◌, not-suc-le-zero}
+use Rattle.std.proofs.Common.{◌≡◌, ℕ, zero, suc, ◌+◌, ◌<◌, ◌≤◌, Bool, List, [], ◌∷◌, ◌++◌, Some, slice_get, length, drop, set, refl, sym, ◌∙◌, ap, ap₂, subst, arith, add-zero, ◌-◌, ◌≢◌, not-suc-le-zero}
 use Rattle.std.proofs.lemmas.List.{drop-set, drop_all, length-set}
 use Rattle.std.proofs.lemmas.Option.{none-some, same_Some}
 use Rattle.bib_spec.specs.Text.{Text}

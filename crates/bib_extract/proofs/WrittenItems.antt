@@ -1,5 +1,5 @@
 -- The bytes of marked items, one after another.
-use Rattle.std.proofs.Common.{◌≡◌, ℕ, ◌+◌, ◌≤◌, ◌<◌, zero, suc, Bool, true, false, List, [], ◌∷◌, ◌++◌, Some, slice_get, get_or, length, drop, map, refl, sym, ◌∙◌, ap, ap₂, append_assoc, append-nil, not-suc-le-zero, le_of_suc-le-suc}
+use Rattle.std.proofs.Common.{◌≡◌, ℕ, ◌+◌, ◌≤◌, ◌<◌, zero, suc, Bool, true, false, List, [], ◌∷◌, ◌++◌, Some, slice_get, get_or, length, drop, refl, sym, ◌∙◌, ap, ap₂, append_assoc, append-nil, not-suc-le-zero, le_of_suc-le-suc}
 use Rattle.std.proofs.lemmas.List.{drop_all, drop_more}
 use Rattle.std.proofs.lemmas.Option.{slice_get_within, get_or_from_slice_get}
 use Rattle.bib_spec.specs.Text.{Text}

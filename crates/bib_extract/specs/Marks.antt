@@ -1,5 +1,5 @@
 -- Marks of entries and of items, as the walks keep them.
-use Rattle.std.specs.Prelude.{ℕ, ◌≡◌, ◌⊎◌, Bool, true, false, List, length, Some, slice_index_or}
+use Rattle.std.specs.Prelude.{ℕ, ◌≡◌, ◌⊎◌, Bool, true, false, List, Some, slice_index_or}
 use Rattle.bib_spec.specs.Records.{EntryTexts, parent}
 use Rattle.extract_spec.specs.Extract.{is_kept_entry}
 

@@ -1,5 +1,5 @@
 -- A merged entry that passes each check is a merge of three entries.
-use Rattle.std.proofs.Common.{◌≡◌, Bool, true, false, ◌&&◌, ◌||◌, List, [], ◌∷◌, ◌++◌, map, Option, None, Some, bytes_eq, if◌then◌else◌, refl, sym, ◌∙◌, ap, subst}
+use Rattle.std.proofs.Common.{◌≡◌, Bool, true, false, ◌&&◌, ◌||◌, List, [], ◌∷◌, ◌++◌, map, None, Some, bytes_eq, if◌then◌else◌, refl, sym, ◌∙◌, ap, subst}
 use Rattle.std.specs.List.{AllZip, list_all}
 use Rattle.std.proofs.lemmas.Bool.{and_from, true≢false}
 use Rattle.std.proofs.lemmas.List.Folds.{list_all-append}
@@ -20,7 +20,7 @@ use Rattle.bib_fields.specs.declared.mix.Side.{Side}
 use Rattle.bib_fields.specs.declared.mix.Side.TheVariants as side
 use Rattle.bib_fields.specs.declared.mix.Mix.{Mix}
 use Rattle.bib_fields.specs.Versions.{IsVersion, MayBeVersion}
-use Rattle.bib_fields.specs.MixSeen.{of_side, type_in, key_in, row_seen, rows_seen, Mixes}
+use Rattle.bib_fields.specs.MixSeen.{of_side, type_in, key_in, row_seen, Mixes}
 use Rattle.bib_fields.specs.Fields.{AreFields, IsMixedField}
 use Rattle.bib_fields.proofs.RowFields.{entry-fields, names-seen, table-seen, mixed-fields, mixed-begin}
 

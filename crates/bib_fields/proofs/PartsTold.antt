@@ -1,12 +1,12 @@
 -- The parts in conflict, one after another.
-use Rattle.std.proofs.Common.{◌≡◌, ℕ, ◌+◌, ◌<◌, ◌≤◌, Bool, true, false, not, ◌&&◌, ◌||◌, cond, if◌then◌else◌, List, [], ◌∷◌, ◌++◌, length, take, get_or, map, filter, Option, None, Some, is_some, is_none, find, option_map, refl, sym, ◌∙◌, ap, ap₂, subst, append_assoc, append-nil}
+use Rattle.std.proofs.Common.{◌≡◌, ℕ, ◌+◌, ◌<◌, Bool, true, false, not, ◌&&◌, cond, if◌then◌else◌, List, [], ◌∷◌, ◌++◌, length, take, get_or, map, filter, Option, None, Some, is_some, is_none, find, option_map, refl, sym, ◌∙◌, ap, ap₂, append_assoc, append-nil}
 use Rattle.std.specs.Borrow.{Bor}
 use Rattle.std.specs.Option.{option_copied}
 use Rattle.std.proofs.lemmas.Bool.{true≢false}
-use Rattle.std.proofs.lemmas.List.{take_more, take_all}
+use Rattle.std.proofs.lemmas.List.{take_more}
 use Rattle.std.proofs.lemmas.List.Elements.{filter-append}
 use Rattle.bib_spec.specs.Text.{Text, folded}
-use Rattle.bib_spec.specs.Tree.{Row, Entry, EntryTree, value_bytes}
+use Rattle.bib_spec.specs.Tree.{Row, Entry, value_bytes}
 use Rattle.bib_spec.specs.Texts.{Macros}
 use Rattle.bib_scan.specs.declared.fields.FieldView.{FieldView}
 use Rattle.bib_scan.specs.View.{field_seen}
@@ -18,8 +18,6 @@ use Rattle.bib_sayings.specs.FieldTables.{names_of}
 use Rattle.bib_fields.specs.declared.version.Version.{Version}
 use Rattle.bib_fields.specs.Versions.{IsVersion}
 use Rattle.bib_fields.specs.PartsSeen.{told}
-use Rattle.bib_fields.proofs.Collected.{map-snoc}
-use Rattle.bib_fields.proofs.MixChecked.{version-names}
 
 map-append : {A B : Type 0} (f : A → B) (xs ys : List A) → map f (xs ++ ys) ≡ map f xs ++ map f ys
 map-append f [] ys = refl

@@ -1,7 +1,7 @@
 -- Fields of the code and the rows that they are of.
-use Rattle.std.proofs.Common.{◌≡◌, ℕ, zero, suc, ◌+◌, ◌<◌, ◌≤◌, Bool, true, false, ◌||◌, ◌&&◌, List, [], ◌∷◌, ◌++◌, map, Option, None, Some, slice_get, get_or, drop, length, bytes_eq, refl, sym, ◌∙◌, ap, subst}
+use Rattle.std.proofs.Common.{◌≡◌, ℕ, zero, suc, ◌+◌, ◌<◌, ◌≤◌, Bool, true, false, ◌||◌, ◌&&◌, List, [], ◌∷◌, ◌++◌, map, Option, Some, slice_get, get_or, drop, length, bytes_eq, refl, sym, ◌∙◌, ap, subst}
 use Rattle.std.specs.Prelude.{IfSome}
-use Rattle.std.specs.List.{AllZip, AllByRecursion, list_any, list_all}
+use Rattle.std.specs.List.{AllZip, list_all}
 use Rattle.std.specs.Borrow.{Bor}
 use Rattle.std.proofs.lemmas.Bool.{and_from, and_parts}
 use Rattle.std.proofs.lemmas.List.{drop_more, drop_all}
@@ -15,7 +15,7 @@ use Rattle.bib_scan.specs.declared.fields.FieldView.{FieldView}
 use Rattle.bib_scan.specs.View.{Field, field_seen, fields_of}
 use Rattle.bib_store.specs.Gathering.{IsFieldOf}
 use Rattle.merge_spec.specs.ThreeWay as three
-use Rattle.merge_spec.specs.ThreeWay.{are_single, begin_as, end_in_space}
+use Rattle.merge_spec.specs.ThreeWay.{begin_as, end_in_space}
 use Rattle.bib_sayings.specs.FieldTables.{names_of, IsTableFound, IsTableOfRows}
 use Rattle.bib_sayings.proofs.Tables.{Table, IsTabling, tabling-all}
 use Rattle.bib_sayings.proofs.EntriesAgree.{fields-rows, names-rows, named-row, values-of}

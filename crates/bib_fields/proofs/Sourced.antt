@@ -1,6 +1,5 @@
 -- Rows of the entries of two sides, as slices of their bodies.
-use Rattle.std.proofs.Common.{◌≡◌, ℕ, ◌++◌, List, map, Option, None, Some, slice_get, refl, sym, ◌∙◌, ap, ap₂, subst}
-use Rattle.std.specs.List.{AllZip}
+use Rattle.std.proofs.Common.{◌≡◌, ℕ, ◌++◌, List, map, Option, Some, slice_get, refl, sym, ◌∙◌, ap, ap₂, subst}
 use Rattle.bib_spec.specs.Text.{Text}
 use Rattle.bib_spec.specs.Bytes.{name_limit}
 use Rattle.bib_spec.specs.Tree.{Row, Entry, Tree, CommentTree, DefinitionTree, PreambleTree, EntryTree, IsTree, tree_bytes, value_bytes}

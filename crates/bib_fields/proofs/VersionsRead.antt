@@ -1,5 +1,5 @@
 -- The version of an item.
-use Rattle.std.proofs.Common.{◌≡◌, Bool, true, false, List, map, Option, None, Some, refl, sym, ◌∙◌, ap, subst}
+use Rattle.std.proofs.Common.{◌≡◌, false, List, map, Option, None, Some, refl, sym, ◌∙◌, ap, subst}
 use Rattle.std.specs.Borrow.{Bor}
 use Rattle.bib_spec.specs.Bytes.{name_limit}
 use Rattle.bib_spec.specs.Text.{Text}
@@ -9,13 +9,12 @@ use Rattle.bib_spec.specs.Texts.{Macros}
 use Rattle.bib_scan.specs.declared.view.Kind.TheVariants as kind
 use Rattle.bib_scan.specs.View.{Field, View, view_of, kind_of, field_seen, fields_of}
 use Rattle.bib_definitions.specs.MacrosSeen.{macros_seen}
-use Rattle.merge_spec.specs.ThreeWay as three
 use Rattle.merge_spec.specs.ThreeWay.{are_single}
 use Rattle.merge_spec.specs.Conflicts.{is_single}
 use Rattle.bib_sayings.specs.FieldTables.{names_of, IsTableFound}
 use Rattle.bib_sayings.proofs.EntriesAgree.{rows-table, names-of_entry}
 use Rattle.bib_fields.specs.declared.version.Version.{Version}
-use Rattle.bib_fields.specs.Versions.{IsVersion, MayBeVersion}
+use Rattle.bib_fields.specs.Versions.{MayBeVersion}
 
 -- the fields of the view of an entry
 pub seen-fields : (v : View) (fields : List Field) (e : Entry) (trail : Text) → fields ≡ v.fields → v ≡ view_of (record { tree = EntryTree e; trail = trail }) → fields ≡ fields_of (EntryTree e)

@@ -1,5 +1,5 @@
 -- The bytes of rows, and what comes after them.
-use Rattle.std.proofs.Common.{◌≡◌, ℕ, zero, suc, ◌+◌, ◌<◌, ◌≤◌, Bool, true, false, not, List, [], ◌∷◌, ◌++◌, length, take, drop, map, get_or, Option, None, Some, slice_get, refl, sym, ◌∙◌, ap, ap₂, subst, append_assoc, append-nil}
+use Rattle.std.proofs.Common.{◌≡◌, ℕ, zero, suc, ◌+◌, ◌<◌, ◌≤◌, true, List, [], ◌∷◌, ◌++◌, length, take, drop, map, get_or, Option, None, Some, slice_get, refl, sym, ◌∙◌, ap, ap₂, subst, append_assoc, append-nil}
 use Rattle.std.specs.List.{AllZip, AllByRecursion, flat_map}
 use Rattle.std.proofs.Math.Seq.{take-append_seam, drop-append_seam, drop-append-add}
 use Rattle.std.proofs.lemmas.List.{drop_more, drop_all, take_more, take_all}
@@ -7,7 +7,7 @@ use Rattle.std.proofs.lemmas.List.Elements.{recursion_from_All}
 use Rattle.bib_spec.specs.Bytes.{comma, equals_sign, name_limit}
 use Rattle.bib_spec.specs.Text.{Text, does_not_begin_with, after_run}
 unfoldable use Rattle.bib_spec.specs.Text.{is_space}
-use Rattle.bib_spec.specs.Tree.{Delimiter, Brace, Paren, Row, Entry, IsRow, IsSpace, IsEntry, EntryTree, tree_bytes, row_bytes, value_bytes, opening_bytes, close_byte, last_comma_bytes, after_key_bytes}
+use Rattle.bib_spec.specs.Tree.{Delimiter, Brace, Paren, Row, Entry, IsRow, IsSpace, IsEntry, EntryTree, tree_bytes, row_bytes, value_bytes, opening_bytes, close_byte, last_comma_bytes}
 use Rattle.bib_spec.specs.Texts.{row_start}
 use Rattle.bib_scan.specs.declared.fields.FieldView.{FieldView}
 use Rattle.bib_scan.specs.View.{Field, View, field_seen, fields_after, fields_of, view_of}

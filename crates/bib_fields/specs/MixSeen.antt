@@ -1,10 +1,10 @@
 -- A merged entry in the code, as the definitions have it.
-use Rattle.std.specs.Prelude.{ℕ, ◌≡◌, true, List, [], map, Option, Some, slice_get, unwrap_or}
+use Rattle.std.specs.Prelude.{ℕ, ◌≡◌, true, List, [], map, Option, slice_get, unwrap_or}
 use Rattle.std.specs.Option.{option_map_or}
 use Rattle.bib_spec.specs.Text.{Text}
-use Rattle.bib_spec.specs.Tree.{Digits, Value, Assignment, Row, Entry, Tree, EntryTree, tree_bytes}
+use Rattle.bib_spec.specs.Tree.{Digits, Assignment, Row, Entry, EntryTree, tree_bytes}
 use Rattle.bib_spec.specs.Texts.{Macros}
-use Rattle.merge_spec.specs.ThreeWay.{entry_like, entry_with, may_mix}
+use Rattle.merge_spec.specs.ThreeWay.{entry_like, may_mix}
 use Rattle.bib_fields.specs.declared.mix.Side.{Side}
 use Rattle.bib_fields.specs.declared.mix.Side.TheVariants as side
 use Rattle.bib_fields.specs.declared.mix.RowOf.{RowOf}

@@ -3,7 +3,7 @@ use Rattle.std.specs.Prelude.{◌≡◌, map, Option, None, Some, ⊤}
 use Rattle.bib_spec.specs.Bytes.{name_limit}
 use Rattle.bib_spec.specs.Text.{Text}
 use Rattle.bib_spec.specs.Tree.{Entry, IsEntry, Tree, EntryTree}
-use Rattle.bib_scan.specs.View.{View, view_of, field_seen, fields_of}
+use Rattle.bib_scan.specs.View.{view_of, field_seen, fields_of}
 use Rattle.bib_fields.specs.declared.writing.Source.{Source}
 
 -- the source is this entry

@@ -1,8 +1,7 @@
 //! Whether a merged entry is a merge of three entries.
 
-ghost use Rattle.std.specs.Prelude.{◌≡◌, ◌||◌, ◌++◌, true, false, List, map, Option, None, Some, slice_get, unwrap_or, option_map, IfOk, IfSome};
+ghost use Rattle.std.specs.Prelude.{◌≡◌, ◌||◌, ◌++◌, true, false, List, map, None, Some, slice_get, IfOk, IfSome};
 ghost use Rattle.std.specs.List.{list_all, AllZip};
-ghost use Rattle.std.specs.Option.{option_map_or};
 ghost use Rattle.bib_spec.specs.Bytes.{name_limit};
 ghost use Rattle.bib_spec.specs.Text.{is_space as is_space_in, same};
 ghost use Rattle.bib_spec.specs.Tree.{Entry, Row, IsTree};
@@ -15,7 +14,7 @@ ghost use Rattle.merge_spec.specs.ThreeWay.{entry_with, names_of as row_names, i
 ghost use Rattle.bib_sayings.specs.FieldTables.{IsTableOfRows, IsTableFound, names_of};
 ghost use Rattle.bib_fields.specs.Versions.{IsVersion};
 ghost use Rattle.bib_fields.specs.MixSeen.{of_side, row_seen, Mixes};
-ghost use Rattle.bib_fields.specs.Fields.{AreFields, IsFieldAt, IsMixedField};
+ghost use Rattle.bib_fields.specs.Fields.{AreFields, IsMixedField};
 
 use crate::mix::{Mix, MixedRow, RowOf, Side};
 use crate::of_three::is_of_three;

@@ -1,8 +1,8 @@
 //! Which parts of three entries are in conflict.
 
-ghost use Rattle.std.specs.Prelude.{◌≡◌, ◌++◌, [], ◌∷◌, List, map, filter, Some, slice_get, IfOk, OnOk, if◌then◌else◌};
+ghost use Rattle.std.specs.Prelude.{◌≡◌, ◌++◌, [], ◌∷◌, map, filter, Some, slice_get, IfOk, OnOk, if◌then◌else◌};
 ghost use Rattle.bib_spec.specs.Bytes.{name_limit};
-ghost use Rattle.bib_spec.specs.Text.{Text as Bytes, folded};
+ghost use Rattle.bib_spec.specs.Text.{folded};
 ghost use Rattle.bib_spec.specs.Tree.{Entry, IsTree};
 ghost use Rattle.bib_spec.specs.Reading.{Item};
 ghost use Rattle.bib_spec.specs.Texts.{Macros, months, macros_at};

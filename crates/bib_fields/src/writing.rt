@@ -1,9 +1,9 @@
 //! The bytes of a merged entry.
 
-ghost use Rattle.std.specs.Prelude.{◌≡◌, ◌++◌, List, map, Some, slice_get, IfOk, IfSome, OnOk};
+ghost use Rattle.std.specs.Prelude.{◌≡◌, ◌++◌, map, Some, slice_get, IfOk, IfSome, OnOk};
 ghost use Rattle.std.specs.List.{flat_map};
 ghost use Rattle.bib_spec.specs.Bytes.{name_limit};
-ghost use Rattle.bib_spec.specs.Tree.{Entry, Row, IsTree, EntryTree, row_bytes};
+ghost use Rattle.bib_spec.specs.Tree.{Entry, IsTree, row_bytes};
 ghost use Rattle.bib_spec.specs.Reading.{Item};
 ghost use Rattle.bib_spec.specs.Texts.{Macros, row_start};
 ghost use Rattle.bib_scan.specs.View.{view_of};

@@ -1,9 +1,9 @@
 -- The paths for a file are four.
-use Rattle.std.specs.Prelude.{ℕ, ◌≡◌, ◌≢◌, ◌+◌, List, [], ◌∷◌, ◌++◌, length, codes}
-use Rattle.std.proofs.Common.{arith, refl, sym, ◌∙◌, ap, subst}
+use Rattle.std.specs.Prelude.{ℕ, ◌≡◌, ◌≢◌, ◌+◌, [], ◌∷◌, ◌++◌, length, codes}
+use Rattle.std.proofs.Common.{arith, sym, ◌∙◌, ap, subst}
 use Rattle.std.proofs.lemmas.List.{append_cancel_left, append-nil}
 use Rattle.bib_spec.specs.Text.{Text}
-use Rattle.bib_files.specs.Storing.{Paths, paths_for, AreApart}
+use Rattle.bib_files.specs.Storing.{paths_for, AreApart}
 
 -- what follows a text makes two texts of it, if it differs in length
 differ : (front a b : Text) → length a ≢ length b → front ++ a ≢ front ++ b

@@ -1,8 +1,8 @@
 -- What calls in turn leave at each path.
-use Rattle.std.specs.Prelude.{◌≡◌, ◌≢◌, ◌⊎◌, Option, Some, None, IfSome}
-use Rattle.std.proofs.Common.{inl, inr, refl, sym, ◌∙◌, ap, subst}
+use Rattle.std.specs.Prelude.{◌≡◌, ◌≢◌, Option, Some, None, IfSome}
+use Rattle.std.proofs.Common.{inl, inr, sym, ◌∙◌, ap, subst}
 use Rattle.bib_spec.specs.Text.{Text}
-use Rattle.bib_files.specs.Folders.{Held, Files, Told, Keeps, Puts, Moves}
+use Rattle.bib_files.specs.Folders.{Held, Files, Told, Keeps}
 use Rattle.bib_files.specs.Storing.{Paths, AreApart, PutsIf, MovesIf, CanStore, HasNew, AreStored, AreUnstored}
 
 -- one call after another

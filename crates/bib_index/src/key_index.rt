@@ -1,6 +1,6 @@
 //! Ids by their texts, without regard to ASCII case.
 
-ghost use Rattle.std.specs.Prelude.{◌≡◌, ◌≢◌, ◌≤◌, ℕ, Bool, false, List, [], ◌∷◌, None, Some, Option, length, insert, slice_get, IsSome, IsTrue, OnOk, OnErr};
+ghost use Rattle.std.specs.Prelude.{◌≡◌, ◌≤◌, ℕ, Bool, false, List, [], None, Some, Option, length, insert, slice_get, IsSome, IsTrue, OnOk, OnErr};
 ghost use Rattle.bib_spec.specs.Bytes.{name_limit};
 ghost use Rattle.bib_spec.specs.Text.{Text, folded};
 ghost use Rattle.folded_map.specs.FoldedMap.{value_at};

@@ -2,9 +2,7 @@
 
 ghost use Rattle.std.specs.Prelude.{◌≡◌, ℕ, false, [], List, OnOk, IfOk, Contains, take};
 ghost use Rattle.std.specs.List.Sorted.{IsNonDecreasing};
-ghost use Rattle.bib_spec.specs.Bytes.{name_limit};
 ghost use Rattle.bib_spec.specs.Text.{Text as Bytes};
-ghost use Rattle.bib_spec.specs.Reading.{IsValueWithin};
 ghost use Rattle.bib_scan.specs.PartView.{part_view};
 ghost use Rattle.bib_scan.specs.ValueParts.{IsPartsOf};
 ghost use Rattle.bib_items.specs.PartMarks.{mark_len, mixed, mixed_all, name_mark, text_mark, part_mark, sought_mark, KeepsMarks, HasPartMark, HasValueMarks, HasFieldMarks, HasItemMarks, IsCovered};

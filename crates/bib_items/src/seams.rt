@@ -1,7 +1,7 @@
 //! Pages that come and go whole.
 
 ghost use Rattle.std.specs.Prelude.{◌≡◌, ◌+◌, ◌≤◌, ◌<◌, ◌++◌, length, take, drop, OnOk, OnErr, IfOk};
-ghost use Rattle.bib_pages.specs.Pages.{joined, page_at, parted_at};
+ghost use Rattle.bib_pages.specs.Pages.{joined};
 ghost use Rattle.bib_items.specs.Items.{without_range};
 ghost use Rattle.bib_items.specs.Pages.{ArePages, IsPaged, IsSeam};
 ghost use Rattle.bib_items.specs.Starts.{AreStarts};

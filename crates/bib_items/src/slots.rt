@@ -1,6 +1,6 @@
 //! Slots of marks: few marks share a slot, so that most marks that a list doesn't have are known by their slot.
 
-ghost use Rattle.std.specs.Prelude.{◌≡◌, ℕ, false, IfOk, All};
+ghost use Rattle.std.specs.Prelude.{◌≡◌, ℕ, false};
 ghost use Rattle.bib_items.specs.Slots.{slot_of, IsSeen};
 
 use std::alloc::{AllocError, Global};

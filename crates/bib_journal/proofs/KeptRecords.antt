@@ -1,20 +1,23 @@
 -- What renamings keep, of the files of a session.
 use Rattle.bib_journal.proofs.Words.{◌≡◌, ◌≢◌, ℕ, zero, suc, Bool, true, List, [], ◌∷◌, Option, Some, None, take, refl, sym, ◌∙◌, ap, subst, false≢true, name_limit, Text, Reading, Reads, bytes_of, one_reading, IsAccepted, KeptSteps, history_of, Edit, SetField, DropField, AddEntry, AddMany}
 use Rattle.bib_journal.proofs.Words.{RemoveEntry, MoveEntry, RenameKey, RegenerateKeys, RenameMacro, InlineMacro, IntroduceMacro, SetType, UndefineMacro, RenameField, DefineMacro, SetMacro, Request, EditFault, made_base, AsksFor, OfEdit, asked_for, has_key_base, SessionState, DoesAll, OfReadings}
-use Rattle.std.proofs.Common.{◌&&◌, option_map, slice_get}
+use Rattle.std.proofs.Common.{◌&&◌, ◌<◌, length, get_or, option_map, slice_get}
 use Rattle.std.specs.List.{list_all}
 use Rattle.std.proofs.Common.{⊎_elim}
 use Rattle.std.proofs.lemmas.Bool.{and_parts, cases_Bool, cond-true, cond-false, both_ways}
-use Rattle.bib_spec.specs.Records.{Record, entries_of, entry_named, expanded}
+use Rattle.std.proofs.lemmas.Option.{none-some, slice_get-map, slice_get-get_or, get_or_from_slice_get}
+use Rattle.std.proofs.lemmas.List.{ext_get_or}
+use Rattle.bib_spec.specs.Records.{EntryTexts, Record, entries_of, keys_of, entry_named, record_of, expanded}
 use Rattle.bib_spec.specs.MadeKeys.{IsKeyBase, new_keys}
 use Rattle.edit_spec.specs.Edits as edits
 use Rattle.edit_spec.specs.Edits.{edited, key_for}
 use Rattle.edit_spec.specs.Laws.{KeepsEntries, KeepsMacros, KeepsCitations, KeepsCitationsByKey, KeepsAllButTypes, KeepsAllButNames, KeepsAllButUsers, type_for, is_renamed_in, dependents, record_with_key, no_new_key}
 use Rattle.edit_spec.specs.OtherLaws.{is_meant}
+use Rattle.edit_spec.proofs.OneMore.{length-keys}
 use Rattle.edit_spec.proofs.OneEntry.{rename-one-key-keeps, set-one-type-keeps, rename-fields-of-one-keeps}
 use Rattle.edit_spec.proofs.OneDefinition.{set-one-definition-keeps, undefine-one-keeps}
 use Rattle.edit_spec.proofs.RenameKey.{rename-key-keeps}
-use Rattle.edit_spec.proofs.Regenerate.{regenerate-keys-keeps, made-keys-differ, regenerating-again}
+use Rattle.edit_spec.proofs.Regenerate.{regenerate-keys-keeps, length-new, made-keys-differ, regenerating-again}
 use Rattle.edit_spec.proofs.SetType.{set-type-keeps}
 use Rattle.edit_spec.proofs.UndefineMacro.{undefine-macro-keeps}
 use Rattle.edit_spec.proofs.RenameField.{rename-field-keeps}
@@ -29,7 +32,7 @@ use Rattle.bib_edit.specs.Numbers.{is_numbered, which_of}
 use Rattle.bib_edit.specs.Asking.{asked_key, asked_type, asked_fields, asked_undefine, asked_macro, entry_asked, name_asked}
 use Rattle.bib_edit.proofs.AskedEdits.{some_value, which-plain}
 use Rattle.bib_journal.proofs.MadeFiles.{moved_present, made-reads, of-made}
-use Rattle.bib_journal.specs.Renaming.{Keeps, edit_keeps, keys_are_made_once, is_renaming, without_key, KeepsTexts, requests_keep}
+use Rattle.bib_journal.specs.Renaming.{Keeps, edit_keeps, keys_are_made_once, newkeys_are_those_of_regenerate, is_renaming, without_key, KeepsTexts, requests_keep}
 
 is_base : IsKeyBase made_base
 is_base = has_key_base (edits.RegenerateKeys 1)
@@ -189,6 +192,44 @@ keys-are-made-once depth old new sound made =
       file = λ more makes. moved_present new.current (bytes_of (edited made_base db' e)) (history_of new.steps) (history_of more.steps) (makes.file db' reads' e asks)
           ∙ ap bytes_of again.1 ∙ reads'.bytes;
     }
+
+-- the record with this key has this key
+key_given : (o : Option Record) (key was : Text) → option_map (λ r. r.key) o ≡ Some was → option_map (λ r. r.key) (option_map (record_with_key (Some key)) o) ≡ Some key
+key_given None key was is = absurd (none-some was is)
+key_given (Some r) key was is = refl
+
+-- each entry's record has the entry's key
+key_of_record : (entries : List EntryTexts) (n : ℕ) → option_map (λ r. r.key) (expanded 0 entries n) ≡ slice_get (keys_of entries) n
+key_of_record entries n = at (slice_get entries n) ∙ sym (slice_get-map (λ entry. entry.key) entries n)
+  where
+    at : (o : Option EntryTexts) → option_map (λ r. r.key) (option_map (record_of 0 entries n) o) ≡ option_map (λ entry. entry.key) o
+    at None = refl
+    at (Some entry) = refl
+
+-- if every entry gets a key, the new keys are these
+keys_are : (keys : List Text) (old new : Reading) → KeepsEntries (slice_get keys) old new → length keys ≡ length (entries_of old) → keys_of (entries_of new) ≡ keys
+keys_are keys old new keeps long = ext_get_or [] its keys (many ∙ sym long) (λ n lt.
+    let given : slice_get keys n ≡ Some (get_or keys n []) = slice_get-get_or keys n [] (subst (λ (k : ℕ). n < k) (many ∙ sym long) lt) in
+    let had : slice_get was n ≡ Some (get_or was n []) = slice_get-get_or was n [] (subst (λ (k : ℕ). n < k) (many ∙ sym (length-keys (entries_of old))) lt) in
+    get_or_from_slice_get its n (get_or keys n []) []
+    (sym (key_of_record (entries_of new) n)
+    ∙ ap (option_map (λ r. r.key)) (keeps.records 0 n)
+    ∙ ap (λ o. option_map (λ r. r.key) (option_map (record_with_key o) (expanded 0 (entries_of old) n))) given
+    ∙ key_given (expanded 0 (entries_of old) n) (get_or keys n []) (get_or was n []) (key_of_record (entries_of old) n ∙ had)))
+  where
+    was : List Text
+    was = keys_of (entries_of old)
+
+    its : List Text
+    its = keys_of (entries_of new)
+
+    many : length its ≡ length (entries_of old)
+    many = length-keys (entries_of new) ∙ keeps.count
+
+pub newkeys-are-those-of-regenerate : newkeys_are_those_of_regenerate
+newkeys-are-those-of-regenerate depth old new made db reads db' reads' =
+    keys_are (new_keys made_base depth (entries_of db)) db db' (edit-keeps (RegenerateKeys depth) old new made db reads db' reads').0
+    (length-new made_base is_base depth (entries_of db))
 
 -- ---- many renamings
 

@@ -76,6 +76,11 @@ pub record MakesNothingAgain (depth : ℕ) (state : SessionState) : Type 0 where
 abbrev pub keys_are_made_once : Type 0
 keys_are_made_once = (depth : ℕ) (old new : SessionState) → IsSound old.steps → MakesEdit (RegenerateKeys depth) old new → MakesNothingAgain depth new
 
+-- Once keys were made, the file has the made keys of the file before, at that depth: those that `newkeys` prints for it.
+abbrev pub newkeys_are_those_of_regenerate : Type 0
+newkeys_are_those_of_regenerate = (depth : ℕ) (old new : SessionState) → MakesEdit (RegenerateKeys depth) old new →
+    OfReadings old.steps.present new.steps.present (λ db db'. keys_of (entries_of db') ≡ new_keys made_base depth (entries_of db))
+
 -- ---- many renamings
 
 -- the request renames a key or a macro, makes all keys again, writes a macro's text for its uses, gives a text a name, or removes

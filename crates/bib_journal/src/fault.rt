@@ -8,7 +8,6 @@ ghost use Rattle.bib_journal.specs.Session.{RefusesStart, RefusesLoad};
 
 use bib_edit::EditFault;
 use bib_scan::ReadFault;
-use bib_store::StoreFault;
 use journal_format::JournalFault;
 use std::alloc::{AllocError, AllocFailed};
 use thiserror::Error;

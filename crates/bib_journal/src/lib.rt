@@ -33,7 +33,8 @@ pub use laws::{
 pub use other_entries::other_entries_keep_their_records;
 pub use performing::{Performed, perform, perform_one, repeat};
 pub use renaming::{
-    a_script_of_renamings_keeps_every_record, keys_are_made_once, renaming_keeps_every_record,
+    a_script_of_renamings_keeps_every_record, keys_are_made_once, newkeys_are_those_of_regenerate,
+    renaming_keeps_every_record,
 };
 pub use saved_loads::what_is_saved_is_loaded;
 pub use saving::Saved;

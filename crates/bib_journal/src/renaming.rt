@@ -1,6 +1,6 @@
 //! What renamings keep, in laws about what a session answers.
 
-ghost use Rattle.bib_journal.specs.Renaming.{edit_keeps, keys_are_made_once, requests_keep};
+ghost use Rattle.bib_journal.specs.Renaming.{edit_keeps, keys_are_made_once, newkeys_are_those_of_regenerate, requests_keep};
 
 /// Renaming keeps every record. If `Session::edit` renames a key or a macro, makes all keys again, writes a macro's text
 /// for its uses, gives a text a name or removes a definition that nothing uses, each entry's record and parent, each preamble,
@@ -16,6 +16,12 @@ pub fn renaming_keeps_every_record()
 /// same bytes. It may still be refused for want of room or of memory.
 pub fn keys_are_made_once()
     ensures { keys_are_made_once }
+{}
+
+/// If `Session::edit` makes all keys again, the keys of the file are then those that `newkeys` prints for the file before, at the
+/// same depth.
+pub fn newkeys_are_those_of_regenerate()
+    ensures { newkeys_are_those_of_regenerate }
 {}
 
 /// If all requests to `perform` are renamings, each entry's type, fields and parent, and each preamble, are as they were,

@@ -1,6 +1,6 @@
 //! Steps of a journal, gone over one by one.
 
-ghost use Rattle.std.specs.Prelude.{◌≡◌, ◌-◌, ◌≤◌, ◌↔◌, None, drop, length, IsTrue, IfOk, IfSome, OnOk};
+ghost use Rattle.std.specs.Prelude.{◌≡◌, ◌-◌, ◌≤◌, ◌↔◌, None, drop, length, IsTrue, IfOk, IfSome};
 ghost use Rattle.bib_spec.specs.Pieces.{applied};
 ghost use Rattle.history_spec.specs.Steps.{IsAllowed, Leads, LeadTo, LeadOn, BelongTo, before, first_of};
 ghost use Rattle.bib_journal.specs.Loading.{IsTurnable, AreTurnable, last_of};

@@ -5,7 +5,7 @@ ghost use Rattle.journal_format.specs.Contents.{digest_of, IsDigest};
 ghost use Rattle.journal_format.specs.JournalText.{journal_text};
 
 use bib_text::Text;
-use journal_format::{Journal, Step, digest, write_journal};
+use journal_format::{Journal, Step, digest, write_journal, write_taken_back};
 use std::alloc::{AllocError, Global};
 
 /// A file and its journal, as a run leaves them and a later one loads them.
@@ -29,18 +29,6 @@ pub(crate) fn journal_of(
     write_journal(alloc, digest.as_slice(), past, undone)
 }
 
-/// Moves `n` steps from the top of one stack to another.
-fn move_top(from: &mut Vec<Step>, to: &mut Vec<Step>, n: usize) -> Result<(), AllocError>
-    requires { n ≤ length from.old.items }
-    ensures from { OnOk result (from.new.items ≡ take (length from.old.items - n) from.old.items) }
-    ensures to { OnOk result (to.new.items ≡ to.old.items ++ reverse (drop (length from.old.items - n) from.old.items)) }
-{
-    let mut turned = from.split_off(from.len() - n)?;
-    turned.reverse();
-    to.append(&mut turned)?;
-    Ok(())
-}
-
 /// The file, and its journal once the last `n` past steps that its journal said are taken back.
 pub(crate) fn saved_back(
     alloc: Global,
@@ -57,10 +45,15 @@ pub(crate) fn saved_back(
     })) }
     ensures digest { OnOk result (IsDigest (digest_of file)) }
 {
-    let mut past = said.past.into_vec();
-    let mut undone = said.future.into_vec();
-    undone.reverse();
-    move_top(&mut past, &mut undone, n)?;
-    let journal = journal_of(alloc, file.as_slice(), past.as_slice(), undone.as_slice())?;
+    let digest = digest(alloc, file.as_slice())?;
+    let past = said.past.as_slice();
+    let undos = past.len() - n;
+    let journal = write_taken_back(
+        alloc,
+        digest.as_slice(),
+        undos,
+        past,
+        said.future.as_slice(),
+    )?;
     Ok(Saved { file, journal })
 }

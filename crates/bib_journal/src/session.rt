@@ -2,7 +2,6 @@
 
 ghost use Rattle.std.specs.Prelude.{◌≡◌, ◌+◌, ◌<◌, ◌++◌, ◌↔◌, [], false, length, reverse, slice_get, Some, option_map, IsTrue, IfOk, IfErr, OnOk, OnErr, ◌≢◌, ◌⊎◌};
 ghost use Rattle.bib_spec.specs.Texts.{IsOpenable};
-ghost use Rattle.bib_spec.specs.Pieces.{Piece as FilePiece, applied};
 ghost use Rattle.history_spec.specs.Steps.{IsSound, AreSteps, IsLabel, IsAllowed};
 ghost use Rattle.bib_data.specs.Depths.{HasDepth};
 ghost use Rattle.journal_format.specs.Faults.{IsTextOf};
@@ -22,7 +21,7 @@ use crate::saving::{Saved, journal_of};
 use crate::stepping::{forget, go_back, go_on, go_on_if_open};
 use bib_data::Position;
 use bib_edit::{Edit, EditFault, plan, plan_at};
-use bib_store::{Database, ItemList, Piece, compose};
+use bib_store::{Database, ItemList, Piece};
 use bib_text::{Seq, Text};
 use journal_format::{
     CHANGE_LIMIT, Journal, STEP_TEXTS_LIMIT, Step, step_text_len, step_texts_len,

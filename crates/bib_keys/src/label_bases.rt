@@ -76,7 +76,7 @@ fn base_with(
 }
 
 impl Parents {
-    ghost use Rattle.std.specs.Prelude.{◌≡◌, ℕ, [], map, slice_get, Some, IsSome, IfOk, OnOk};
+    ghost use Rattle.std.specs.Prelude.{◌≡◌, ℕ, map, slice_get, Some, IsSome, IfOk, OnOk};
     ghost use Rattle.std.specs.Option.{option_copied, option_map};
     ghost use Rattle.bib_spec.specs.Text.{Text as Bytes};
     ghost use Rattle.bib_spec.specs.Records.{EntryTexts, entries_of, parent, record_of, IsDepth};

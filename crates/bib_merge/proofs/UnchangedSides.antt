@@ -1,5 +1,5 @@
 -- If a side left the common file, the file of the other side is a merge; so is the file of both, if they are the same.
-use Rattle.std.proofs.Common.{◌≡◌, ℕ, zero, suc, ◌+◌, ◌≤◌, ◌<◌, ◌==◌, Bool, true, false, not, cond, ◌&&◌, ◌||◌, List, [], ◌∷◌, ◌++◌, Option, None, Some, length, map, filter_map, slice_get, count_by, refl, sym, ◌∙◌, ap, ap₂, subst, arith, ⊎_elim, ◌⊎◌, inl, inr}
+use Rattle.std.proofs.Common.{◌≡◌, ℕ, zero, suc, ◌+◌, ◌≤◌, ◌<◌, ◌==◌, Bool, true, false, cond, ◌&&◌, ◌||◌, List, [], ◌∷◌, ◌++◌, Option, None, Some, length, map, filter_map, slice_get, count_by, refl, sym, ◌∙◌, ap, ap₂, subst, arith, ⊎_elim, ◌⊎◌, inl, inr}
 use Rattle.std.specs.Prelude.{nat_le, is_some, bytes_eq}
 use Rattle.std.specs.List.{flat_map, list_all, range_with_len, cons_option}
 use Rattle.std.specs.Option.{option_map_or}

@@ -3,7 +3,7 @@
 ghost use Rattle.std.specs.Prelude.{◌≡◌, ◌≢◌, ◌↔◌, true, false, [], ◌∷◌, ◌++◌, List, Option, map, get_or, IsTrue, IfOk, IfSome, IfNone};
 ghost use Rattle.bib_spec.specs.Text.{Text};
 ghost use Rattle.bib_spec.specs.Tree.{tree_bytes};
-ghost use Rattle.bib_spec.specs.Reading.{Item, Reading, Reads};
+ghost use Rattle.bib_spec.specs.Reading.{Item, Reading};
 ghost use Rattle.bib_store.specs.Readings.{OfReading, IsItemNumber};
 ghost use Rattle.merge_spec.specs.Units.{Unit, units_of};
 ghost use Rattle.merge_spec.specs.ThreeWay.{entry_of};

@@ -1,5 +1,5 @@
 -- The test of balance.
-use Rattle.bib_names.proofs.Words.{◌≡◌, ℕ, zero, suc, ◌+◌, ◌≤◌, ◌<◌, Bool, true, false, eqb, length, take, refl, sym, ap, ◌∙◌, arith, count_by, range_with_len, list_all, take_all, leb, ltb, eqb-true, eq-eqb, leb-true, le-leb, ltb-true, ltb-false, and_parts, Text, opened_before, closed_before}
+use Rattle.bib_names.proofs.Words.{◌≡◌, ℕ, zero, suc, ◌+◌, ◌≤◌, ◌<◌, Bool, true, false, eqb, length, take, refl, sym, ap, ◌∙◌, arith, count_by, range_with_len, list_all, take_all, ltb, eqb-true, eq-eqb, leb-true, le-leb, ltb-true, ltb-false, and_parts, Text, opened_before, closed_before}
 use Rattle.bib_names.proofs.Words.{balances}
 use Rattle.std.proofs.Common.{⊎_elim}
 use Rattle.std.specs.Prelude.{nat_le, IsTrue}

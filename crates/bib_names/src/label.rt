@@ -1,6 +1,6 @@
 //! The letters of a label and its base.
 
-ghost use Rattle.std.specs.Prelude.{◌≡◌, ◌≤◌, ◌<◌, ◌++◌, ◌∷◌, [], Some, None, IfOk, IfErr, OnOk, length, map, filter, take};
+ghost use Rattle.std.specs.Prelude.{◌≡◌, ◌<◌, ◌++◌, [], Some, None, IfOk, IfErr, OnOk, length, map, filter};
 ghost use Rattle.std.specs.Char.{is_ascii_digit};
 ghost use Rattle.bib_names.specs.Label.{text_in, label_names, balances, listed_names, group, initials_template, print_of, initials_of, first_three, letters_of_one, ends_with_others, letters_of_many, or_anon, label_base};
 ghost use Rattle.bib_names.specs.Printing.{printed_group};

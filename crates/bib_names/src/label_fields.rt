@@ -1,6 +1,6 @@
 //! What each field gives to a label, so that a field that many entries inherit is read once.
 
-ghost use Rattle.std.specs.Prelude.{◌≡◌, ◌++◌, [], IfOk, IfErr, OnOk, codes, map, unwrap_or};
+ghost use Rattle.std.specs.Prelude.{◌≡◌, [], IfOk, IfErr, codes, map, unwrap_or};
 ghost use Rattle.std.specs.Option.{option_copied, option_flatten, option_or};
 ghost use Rattle.bib_names.specs.Label.{first_three, label_base};
 ghost use Rattle.bib_names.specs.LabelParts.{letters_if_any, letters_in, year_digits, parts_of, parts_with, letters_from, base_from, has_field, given, parts_make_the_base, parts_are_inherited};

@@ -1,6 +1,6 @@
 //! Labels for a list of records.
 
-ghost use Rattle.std.specs.Prelude.{◌≡◌, ◌≤◌, ◌<◌, ◌+◌, ◌++◌, ◌∷◌, [], ◌^◌, ℕ, List, IfOk, IfErr, OnOk, length, map, reverse, if◌then◌else◌};
+ghost use Rattle.std.specs.Prelude.{◌≡◌, ◌<◌, ◌+◌, ◌++◌, ◌∷◌, [], ◌^◌, ℕ, List, IfOk, IfErr, OnOk, map, reverse, if◌then◌else◌};
 ghost use Rattle.std.specs.Str.{bytes_eq};
 ghost use Rattle.bib_spec.specs.MadeKeys.{letters};
 ghost use Rattle.bib_names.specs.Counts.{times};

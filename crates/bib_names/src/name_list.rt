@@ -1,6 +1,6 @@
 //! The names of a list.
 
-ghost use Rattle.std.specs.Prelude.{◌≡◌, ◌↔◌, ◌<◌, ◌≤◌, ◌==◌, length, map, IfOk, IfErr, OnOk, Err, IsTrue};
+ghost use Rattle.std.specs.Prelude.{◌≡◌, ◌↔◌, ◌<◌, ◌≤◌, ◌==◌, length, map, IfOk, IfErr, OnOk, Err};
 ghost use Rattle.std.specs.List.{slice_range};
 ghost use Rattle.bib_spec.specs.Text.{IsBalanced};
 ghost use Rattle.bib_text.specs.Trimming.{trimmed};

@@ -1,6 +1,6 @@
 //! Printing a name by a template.
 
-ghost use Rattle.std.specs.Prelude.{◌≡◌, ◌≤◌, ◌<◌, ◌+◌, ◌++◌, ◌∷◌, [], ◌==◌, IfOk, IfErr, OnOk, length, drop};
+ghost use Rattle.std.specs.Prelude.{◌≡◌, ◌<◌, ◌+◌, ◌++◌, ◌==◌, IfOk, IfErr, OnOk, length, drop};
 ghost use Rattle.bib_names.specs.Printing.{shown, dot, is_short, joint, tied, joined, finished, printed_words, printed_group, part_of, printed_with_trail, printed};
 
 use crate::fault::NameFault;

@@ -1,6 +1,6 @@
 //! Special characters and text characters.
 
-ghost use Rattle.std.specs.Prelude.{◌≡◌, ◌<◌, ◌≤◌, ◌==◌, ◌&&◌, ◌^◌, ◌+◌, [], ◌∷◌, min, length, IfSome, IfNone, true, false};
+ghost use Rattle.std.specs.Prelude.{◌≡◌, ◌<◌, ◌≤◌, ◌==◌, ◌&&◌, ◌+◌, [], ◌∷◌, min, length, IfSome, IfNone, true, false};
 ghost use Rattle.std.specs.List.{prefix_len};
 ghost use Rattle.bib_names.specs.Marks.{goes_on};
 ghost use Rattle.bib_names.specs.Places.{is_level};

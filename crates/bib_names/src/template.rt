@@ -228,7 +228,6 @@ fn push_group(
 }
 
 impl Template {
-    ghost use Rattle.std.specs.Prelude.{List};
     ghost use Rattle.bib_names.specs.Template.{Pattern, IsTemplate, spelling};
 
     /// The template that the bytes spell: text, and groups `{pre letters post}` or `{pre letters{between}post}`, where

@@ -1,7 +1,7 @@
 //! Classes of bytes, plain tests of texts, and names without the separators and commas at their ends.
 
-ghost use Rattle.std.specs.Prelude.{◌≡◌, ◌≤◌, ◌||◌, ◌==◌, not, length, drop, take};
-ghost use Rattle.std.specs.List.{prefix_len, list_all};
+ghost use Rattle.std.specs.Prelude.{◌≡◌, ◌||◌, ◌==◌};
+ghost use Rattle.std.specs.List.{list_all};
 ghost use Rattle.bib_spec.specs.Text.{is_space};
 ghost use Rattle.bib_names.specs.Marks.{is_separator, is_dropped_at_end, goes_on};
 ghost use Rattle.bib_names.specs.Name.{without_end};

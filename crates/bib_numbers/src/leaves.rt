@@ -1,6 +1,6 @@
 //! The pages of a list of numbers: in which page each number is, and how numbers come, go and move.
 
-ghost use Rattle.std.specs.Prelude.{◌≡◌, ◌+◌, ◌≤◌, ◌<◌, ◌^◌, ◌++◌, List, ℕ, [], ◌∷◌, length, insert, remove, set, OnOk, OnErr, IfOk, IsTrue};
+ghost use Rattle.std.specs.Prelude.{◌≡◌, ◌+◌, ◌≤◌, ◌<◌, ◌++◌, ℕ, [], ◌∷◌, length, insert, remove, set, OnOk, OnErr, IfOk, IsTrue};
 ghost use Rattle.bib_pages.specs.Pages.{joined, page_at, IsOnWay, IsPlace, IsGap, parted_at};
 ghost use Rattle.bib_numbers.specs.Numbers.{Ascend, rank_in};
 ghost use Rattle.bib_numbers.specs.Moves.{plus, starts, shifted, AreFilled, IsKept};

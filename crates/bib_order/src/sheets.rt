@@ -1,9 +1,9 @@
 //! The pages of an order: in which page each id is, and how ids come and go.
 
-ghost use Rattle.std.specs.Prelude.{◌≡◌, ◌+◌, ◌≤◌, ◌<◌, ◌^◌, List, ℕ, [], ◌∷◌, length, take, insert, remove, set, slice_get, slice_index, Some, None, Option, OnOk, OnErr, IfOk, true};
+ghost use Rattle.std.specs.Prelude.{◌≡◌, ◌+◌, ◌≤◌, ◌<◌, ◌^◌, ℕ, [], ◌∷◌, length, insert, remove, set, slice_get, slice_index, Some, None, OnOk, OnErr, IfOk, true};
 ghost use Rattle.std.specs.Option.{IfSome, IfNone};
 ghost use Rattle.bib_pages.specs.Pages.{joined, page_at, IsPlace, IsGap, parted_at};
-ghost use Rattle.bib_order.specs.Orders.{Lacks, IsKnown, IsTold};
+ghost use Rattle.bib_order.specs.Orders.{Lacks, IsTold};
 
 use crate::sheet::{Sheet, position_in};
 use std::alloc::{AllocError, Global};

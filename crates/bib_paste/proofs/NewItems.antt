@@ -1,5 +1,5 @@
 -- The bytes of items that are not known, one after another.
-use Rattle.std.proofs.Common.{◌≡◌, ℕ, ◌+◌, ◌≤◌, ◌<◌, Bool, true, false, not, List, [], ◌∷◌, ◌++◌, Some, slice_get, length, drop, filter, flat_map, if◌then◌else◌, refl, sym, ◌∙◌, ap, append_assoc, append-nil, ⊎_elim, subst, arith}
+use Rattle.std.proofs.Common.{◌≡◌, ℕ, ◌+◌, ◌≤◌, ◌<◌, true, false, not, List, [], ◌∷◌, ◌++◌, Some, slice_get, length, drop, filter, flat_map, if◌then◌else◌, refl, sym, ◌∙◌, ap, append_assoc, append-nil, ⊎_elim, subst, arith}
 use Rattle.std.proofs.lemmas.Bool.{cases_Bool}
 use Rattle.std.proofs.lemmas.List.{drop_all, drop_more}
 use Rattle.std.proofs.lemmas.Option.{slice_get_cases, slice_get_within, get_or_from_slice_get}

@@ -1,9 +1,9 @@
 //! Groups of members: of pieces back and on whose bytes touch, directly or through others.
 
-ghost use Rattle.std.specs.Prelude.{◌≡◌, ◌+◌, ◌-◌, ◌<◌, ◌≤◌, Bool, true, false, nat_le, List, ◌∷◌, ◌++◌, length, take, drop, IfOk};
+ghost use Rattle.std.specs.Prelude.{◌≡◌, ◌+◌, ◌-◌, ◌<◌, ◌≤◌, true, false, nat_le, ◌∷◌, ◌++◌, length, take, drop, IfOk};
 ghost use Rattle.bib_spec.specs.Bytes.{file_limit};
 ghost use Rattle.bib_spec.specs.Pieces.{end_of, EndBy};
-ghost use Rattle.history_spec.specs.Composing.{in_order, groups, Group as MemberGroup};
+ghost use Rattle.history_spec.specs.Composing.{in_order, groups};
 
 use crate::ordering::{is_back_first, place_of_first};
 use bib_data::Piece;

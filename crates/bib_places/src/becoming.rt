@@ -1,14 +1,13 @@
 //! What may become of the units that meet at a place.
 
-ghost use Rattle.std.specs.Prelude.{◌≡◌, Option, is_some, is_none, IfOk};
+ghost use Rattle.std.specs.Prelude.{◌≡◌, Option, IfOk};
 ghost use Rattle.bib_spec.specs.Reading.{Reading};
 ghost use Rattle.bib_store.specs.Readings.{OfReading};
 ghost use Rattle.merge_spec.specs.Units.{Unit};
-ghost use Rattle.merge_spec.specs.ThreeWay.{is_left, is_unchanged, may_become, says_the_same};
+ghost use Rattle.merge_spec.specs.ThreeWay.{is_left, is_unchanged, says_the_same};
 ghost use Rattle.merge_spec.specs.Merged.{share_label};
-ghost use Rattle.bib_places.specs.PlacesSeen.{MaySee, SeesUnit, outcome_seen};
+ghost use Rattle.bib_places.specs.PlacesSeen.{MaySee, SeesUnit};
 
-use crate::place::Outcome;
 use bib_sayings::items_agree;
 use bib_store::{Database, ItemList};
 use bib_units::{UnitView, is_same};

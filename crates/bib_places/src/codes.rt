@@ -1,6 +1,6 @@
 //! Labels as texts, so that they can be counted and found.
 
-ghost use Rattle.std.specs.Prelude.{◌≡◌, ◌∷◌, ◌++◌, [], List, Option, None, Some, map, option_map, option_and_then, IfOk, OnOk};
+ghost use Rattle.std.specs.Prelude.{◌≡◌, ◌∷◌, ◌++◌, List, Option, None, Some, map, option_map, IfOk, OnOk};
 ghost use Rattle.std.specs.Option.{option_map_or, option_to_list};
 ghost use Rattle.bib_spec.specs.Text.{folded, Text as Bytes};
 ghost use Rattle.bib_spec.specs.Reading.{Reading};

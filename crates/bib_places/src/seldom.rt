@@ -1,8 +1,7 @@
 //! Whether no unit is in a merge twice because each side has added it.
 
-ghost use Rattle.std.specs.Prelude.{◌≡◌, ◌||◌, true, ℕ, nat_le, List, map, IfOk};
+ghost use Rattle.std.specs.Prelude.{◌≡◌, ◌||◌, true, nat_le, List, map, IfOk};
 ghost use Rattle.std.specs.List.{list_all};
-ghost use Rattle.bib_spec.specs.Text.{Text as Bytes};
 ghost use Rattle.bib_spec.specs.Reading.{Reading};
 ghost use Rattle.merge_spec.specs.Units.{Spaced};
 ghost use Rattle.merge_spec.specs.Merged.{are_seldom};

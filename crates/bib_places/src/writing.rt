@@ -1,6 +1,6 @@
 //! The bytes of a merge.
 
-ghost use Rattle.std.specs.Prelude.{◌≡◌, ◌++◌, [], List, Option, map, IfOk, OnOk};
+ghost use Rattle.std.specs.Prelude.{◌≡◌, ◌++◌, [], Option, map, IfOk, OnOk};
 ghost use Rattle.std.specs.Option.{option_map_or};
 ghost use Rattle.bib_spec.specs.Reading.{Reading};
 ghost use Rattle.bib_store.specs.Readings.{OfReading};

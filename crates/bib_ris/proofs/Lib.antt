@@ -1,5 +1,6 @@
 pub mod Words
 pub mod EntriesDropped
+pub mod JudgedFields
 pub mod EntriesRis
 pub mod RisFields
 pub mod GivenKeys

@@ -3,4 +3,5 @@ pub mod Faults
 pub mod Import
 pub mod Drafts
 pub mod Dropped
+pub mod Judging
 pub mod Plain

@@ -8,13 +8,14 @@ ghost use Rattle.bib_store.specs.Readings.{OfReading, IsEntryNumber};
 ghost use Rattle.ris_format.specs.declared.fault.MappingFault.TheVariants.{Memory};
 ghost use Rattle.bib_ris.specs.Dropped.{dropped_line, dropped_lines, entries_dropped};
 
+use crate::judging::lines_judged;
 use bib_store::{Database, ItemList, Record};
 use bib_text::{Seq, Text};
 use ris_format::{MappingFault, dropped_of};
 use std::alloc::{AllocError, Global};
 
 /// Adds a line with a key, a tab, and the name of a field.
-fn add_name(text: &mut Vec<u8>, key: &[u8], name: &[u8]) -> Result<(), AllocError>
+pub(crate) fn add_name(text: &mut Vec<u8>, key: &[u8], name: &[u8]) -> Result<(), AllocError>
     ensures { OnOk result (text.new.items ≡ text.old.items ++ dropped_line key.now name.now) }
 {
     text.extend_from_slice(key)?;
@@ -43,8 +44,8 @@ fn add_record(alloc: Global, text: &mut Vec<u8>, rec: &Record) -> Result<(), Map
     Ok(())
 }
 
-/// Adds a line for each field that RIS leaves out of entry `n`, with what it inherits at this depth.
-fn add_entry<L: ItemList>(
+/// Adds a line for each field that RIS leaves out of entry `n`, with what it inherits at this depth, from its whole record.
+fn add_expanded<L: ItemList>(
     alloc: Global,
     text: &mut Vec<u8>,
     db: &Database<L>,
@@ -60,6 +61,27 @@ fn add_entry<L: ItemList>(
         return Err(MappingFault::Memory);
     };
     add_record(alloc, text, &expanded.rec)
+}
+
+/// Adds a line for each field that RIS leaves out of entry `n`, with what it inherits at this depth. The record of the entry
+/// is made only if it has many names of fields.
+fn add_entry<L: ItemList>(
+    alloc: Global,
+    text: &mut Vec<u8>,
+    db: &Database<L>,
+    n: usize,
+    depth: u8,
+) -> Result<(), MappingFault>
+    requires number { IsEntryNumber db.now n }
+    requires depth { IsDepth depth }
+    ensures text { OnOk result (OfReading db.now (λ r. text.new.items ≡ text.old.items ++ option_map_or dropped_lines (expanded depth (entries_of r) n) [])) }
+    ensures memory { IfErr result (λ fault. fault ≡ Memory) }
+{
+    if let Some(lines) = lines_judged(alloc, db, n, depth)? {
+        text.extend_from_slice(lines.as_slice())?;
+        return Ok(());
+    }
+    add_expanded(alloc, text, db, n, depth)
 }
 
 /// A line for each field of these entries that has a text, and from which no line of their RIS text comes: the key of the

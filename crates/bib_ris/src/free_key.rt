@@ -19,7 +19,7 @@ use std::alloc::{AllocError, Global};
 const FEW: usize = 64;
 
 /// Whether one of these texts is the key, without regard to ASCII case.
-fn is_among(key: &[u8], ids: &[Text]) -> bool
+pub(crate) fn is_among(key: &[u8], ids: &[Text]) -> bool
     ensures { result ≡ is_taken ids.now key.now }
 {
     'ids: for id in ids {

@@ -10,7 +10,9 @@ mod exporting;
 mod fault;
 mod free_key;
 mod importing;
+mod judging;
 mod plain_records;
+mod texts;
 
 pub use dropping::entries_dropped;
 pub use exporting::{entries_plain, entries_ris};

@@ -4,7 +4,7 @@ ghost use Rattle.std.specs.Prelude.{◌≡◌, IfOk};
 ghost use Rattle.bib_spec.specs.Bytes.{name_limit};
 ghost use Rattle.bib_spec.specs.Text.{Text};
 ghost use Rattle.bib_spec.specs.Tree.{Definition, IsDefinition, DefinitionTree};
-ghost use Rattle.bib_scan.specs.View.{Field, field_seen, fields_of, view_of};
+ghost use Rattle.bib_scan.specs.View.{field_seen, fields_of, view_of};
 ghost use Rattle.std.specs.Prelude.{[], ◌∷◌};
 ghost use Rattle.bib_definitions.specs.MacrosSeen.{macros_seen};
 ghost use Rattle.merge_spec.specs.ThreeWay.{definitions_agree};

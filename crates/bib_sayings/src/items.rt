@@ -2,8 +2,7 @@
 
 ghost use Rattle.std.specs.Prelude.{◌≡◌, Some, slice_get, IfOk};
 ghost use Rattle.bib_spec.specs.Bytes.{name_limit};
-ghost use Rattle.bib_spec.specs.Text.{Text};
-ghost use Rattle.bib_spec.specs.Tree.{Tree, IsTree};
+ghost use Rattle.bib_spec.specs.Tree.{IsTree};
 ghost use Rattle.bib_spec.specs.Reading.{Item};
 ghost use Rattle.bib_spec.specs.Texts.{months, macros_at};
 ghost use Rattle.bib_scan.specs.View.{view_of};

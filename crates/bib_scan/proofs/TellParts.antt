@@ -11,7 +11,7 @@ use Rattle.bib_scan.proofs.AgainLaws.{Breaks}
 use Rattle.bib_scan.proofs.LocalLaws.{rest_of, run, run_beyond}
 use Rattle.bib_scan.proofs.MendLaws.{err_is}
 use Rattle.bib_scan.proofs.MendRows.{resumes_run, resumes_name, resumes_part, x_name, inner_err, as_part, too_long}
-use Rattle.bib_scan.proofs.TellLaws.{Past, Stopped, Leaves, Passes, Blocks, Tries, AsksDigit, IsEnd, DigitToo, TellsAt, Tells, Keeps, TakesDigit, keeps_of, digits_of}
+use Rattle.bib_scan.proofs.TellLaws.{Past, Stopped, Passes, Blocks, Tries, AsksDigit, IsEnd, DigitToo, TellsAt, Tells, Keeps, TakesDigit, keeps_of}
 use Rattle.bib_scan.proofs.TellLaws as tells
 
 -- ---- what a fault at the end of `front` shows

@@ -7,7 +7,7 @@ ghost use Rattle.bib_spec.specs.Tree.{Value, IsValue, part_bytes, value_bytes};
 ghost use Rattle.bib_scan.specs.Code.{Gives, GivesUnlessMemory};
 ghost use Rattle.bib_scan.specs.PartView.{part_view};
 ghost use Rattle.bib_scan.specs.ValueParts.{part_kind, kind_begun, parts_of, IsPartsOf, IsValueFault};
-ghost use Rattle.bib_scan.specs.PartsLeft.{part_span, read_link, read_all_parts};
+ghost use Rattle.bib_scan.specs.PartsLeft.{read_link, read_all_parts};
 
 use crate::fault::{Fault, ReadFault, Refusal, Stop};
 use crate::spans::{past_space, text_from};

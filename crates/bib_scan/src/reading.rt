@@ -1,6 +1,6 @@
 //! Reading a file.
 
-ghost use Rattle.std.specs.Prelude.{◌≡◌, ◌≤◌, length, IfOk, IfErr};
+ghost use Rattle.std.specs.Prelude.{◌≤◌, length, IfOk, IfErr};
 ghost use Rattle.bib_spec.specs.Bytes.{file_limit};
 ghost use Rattle.bib_spec.specs.Fault.{IsReadFault};
 ghost use Rattle.bib_scan.specs.Layout.{IsLayoutOf};

@@ -1,6 +1,6 @@
 //! Rows: a name, an equals sign and a value.
 
-ghost use Rattle.std.specs.Prelude.{◌≡◌, ◌<◌, ◌≤◌, IfOk, length};
+ghost use Rattle.std.specs.Prelude.{◌<◌, ◌≤◌, IfOk, length};
 ghost use Rattle.bib_spec.specs.Bytes.{name_limit};
 ghost use Rattle.bib_scan.specs.LeftToRight.{read_assignment, read_row};
 ghost use Rattle.bib_scan.specs.Code.{Gives};

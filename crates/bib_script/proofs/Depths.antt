@@ -10,7 +10,6 @@ use Rattle.bib_data.specs.declared.edit.NewEntry.{NewEntry}
 use Rattle.bib_data.specs.declared.position.Position.{Position}
 use Rattle.bib_data.specs.declared.position.Position.TheVariants.{Number, End, Before, After}
 use Rattle.bib_data.specs.declared.edit.Edit.TheVariants.{RegenerateKeys}
-use Rattle.bib_data.specs.declared.label.Label.{Label}
 use Rattle.bib_data.specs.declared.request.Request.{Request}
 use Rattle.bib_data.specs.declared.request.Request.TheVariants as request
 use Rattle.history_spec.specs.Steps.{label_of}

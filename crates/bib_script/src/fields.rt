@@ -1,7 +1,6 @@
 //! Names and values in turn.
 
 ghost use Rattle.std.specs.Prelude.{◌≡◌, ◌++◌, ◌∷◌, [], Some, None, map, IfOk, OnOk};
-ghost use Rattle.bib_spec.specs.Text.{Text as Bytes};
 ghost use Rattle.bib_script.specs.Script.{fields_of};
 
 use bib_text::{Seq, Text, copied};

@@ -1,6 +1,6 @@
 //! One edit by its words.
 
-ghost use Rattle.std.specs.Prelude.{◌≡◌, ◌∷◌, [], map, All, IfOk, IfSome};
+ghost use Rattle.std.specs.Prelude.{◌≡◌, map, All, IfOk, IfSome};
 ghost use Rattle.bib_data.specs.Depths.{AsksWithDepth};
 ghost use Rattle.bib_script.specs.Words.{step_of, asked_by_words};
 

@@ -1,11 +1,11 @@
--- Lineages, even if the parents form a ring.
-use Rattle.std.proofs.Common.{◌≡◌, ◌∙◌, ℕ, zero, suc, ◌+◌, ◌-◌, ◌<◌, ◌≤◌, ◌==◌, Bool, true, false, cond, ◌||◌, List, [], ◌∷◌, ◌++◌, Option, Some, None, option_and_then, refl, sym, ap, subst, arith, append-nil, add-one, eqb-true, eq-eqb, ne_eqb, ⊎_elim}
+-- Lineages, even if the parents form a ring, and what a greater depth adds.
+use Rattle.std.proofs.Common.{◌≡◌, ◌∙◌, ℕ, zero, suc, ◌+◌, ◌-◌, ◌<◌, ◌≤◌, ◌==◌, Bool, true, false, cond, ◌||◌, List, [], ◌∷◌, ◌++◌, length, take, take_at, append_assoc, Option, Some, None, option_and_then, refl, sym, ap, subst, arith, append-nil, add-one, eqb-true, eq-eqb, ne_eqb, ⊎_elim}
 use Rattle.std.specs.List.{list_any}
 use Rattle.std.specs.Option.{option_map_or}
 use Rattle.std.proofs.lemmas.Bool.{cases_Bool, cond-true, cond-false, true≢false, false≢true, eqb-false}
 use Rattle.std.proofs.lemmas.Option.{none-some, same_Some, option_and_then_some}
-use Rattle.bib_spec.specs.Records.{EntryTexts, RecordField, target, other_than, parent, missing, unvisited, ancestors_from, fields_at, with_inherited}
-use Rattle.bib_spec.specs.Lineages.{lineage, rings_give_nothing_more, parent_alone_at_depth_1}
+use Rattle.bib_spec.specs.Records.{EntryTexts, RecordField, target, other_than, parent, missing, unvisited, ancestors_from, ancestors, own_fields, fields_at, with_inherited}
+use Rattle.bib_spec.specs.Lineages.{lineage, rings_give_nothing_more, parent_alone_at_depth_1, deeper_records_only_gain}
 use Rattle.bib_spec.proofs.Missing.{bears, are_borne, bears_with, missing_none, borne_more, borne_by, or_first, or_later}
 
 -- ---- one after another
@@ -164,3 +164,40 @@ parent-alone-at-depth-1 entries n = at (parent entries n) refl
     at : (o : Option ℕ) → parent entries n ≡ o → option_map_or (λ m. m ∷ []) (option_and_then (unvisited (n ∷ [])) o) [] ≡ option_map_or (λ m. m ∷ []) o []
     at None is = refl
     at (Some m) is = ap (λ b. option_map_or (λ k. k ∷ []) (cond (b || false) None (Some m)) []) (parent_other entries n m is)
+
+-- ---- greater depths
+
+-- the old fields are the first of the new ones
+abbrev Begins : List RecordField → List RecordField → Type 0
+Begins old new = (more : List RecordField) × (new ≡ old ++ more)
+
+module _ (entries : List EntryTexts) where
+  -- the fields, with what the ancestors of n add at this depth
+  abbrev at_depth : ℕ → List ℕ → ℕ → List RecordField → List RecordField
+  at_depth depth visited n own = with_inherited entries own (ancestors_from (parent entries) depth visited n)
+
+  -- what is inherited comes after the fields that are there
+  inherited-after : (own : List RecordField) (ns : List ℕ) → Begins own (with_inherited entries own ns)
+  inherited-after own [] = ([], sym (append-nil own))
+  inherited-after own (n ∷ ns) =
+      let its : List RecordField = missing own (fields_at entries n) in
+      let later = inherited-after (own ++ its) ns in
+      (its ++ later.0, later.1 ∙ append_assoc own its later.0)
+
+  deeper-after : (depth deeper : ℕ) → depth ≤ deeper → (visited : List ℕ) (n : ℕ) (own : List RecordField) → Begins (at_depth depth visited n own) (at_depth deeper visited n own)
+  deeper-after zero deeper le visited n own = inherited-after own (ancestors_from (parent entries) deeper visited n)
+  deeper-after (suc depth) zero le visited n own = absurd (omega (arith, le))
+  deeper-after (suc depth) (suc deeper) le visited n own =
+      at (option_and_then (unvisited visited) (parent entries n)) (λ m. deeper-after depth deeper (omega (arith, le)) (m ∷ visited) m (own ++ missing own (fields_at entries m)))
+    where
+      at : (o : Option ℕ)
+          → ((m : ℕ) → let wider : List RecordField = own ++ missing own (fields_at entries m) in Begins (at_depth depth (m ∷ visited) m wider) (at_depth deeper (m ∷ visited) m wider))
+          → Begins (with_ancestors entries depth visited own o) (with_ancestors entries deeper visited own o)
+      at None further = ([], sym (append-nil own))
+      at (Some m) further = further m
+
+pub deeper-records-only-gain : deeper_records_only_gain
+deeper-records-only-gain entries depth deeper n entry le =
+    let after = deeper-after entries depth deeper le (n ∷ []) n (own_fields entry) in
+    let old : List RecordField = with_inherited entries (own_fields entry) (ancestors entries depth n) in
+    record { kind_name = refl; key = refl; first = ap (take (length old)) after.1 ∙ take_at old after.0 (length old) refl }

@@ -6,7 +6,9 @@
 mod inheriting;
 mod replacing;
 
-pub use inheriting::{a_ring_gives_nothing_more, depth_1_is_the_parent_alone};
+pub use inheriting::{
+    a_deeper_record_only_gains, a_ring_gives_nothing_more, depth_1_is_the_parent_alone,
+};
 pub use replacing::{
     bytes_outside_pieces_are_kept, pieces_of_chunks_lead_from_old_to_new,
     reversed_pieces_are_the_way_back,

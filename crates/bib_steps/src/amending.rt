@@ -1,7 +1,6 @@
 //! An edit that joins a step.
 
 ghost use Rattle.std.specs.Prelude.{◌≡◌, ◌-◌, ◌≤◌, length, take, drop, IfOk};
-ghost use Rattle.bib_spec.specs.Pieces.{Piece as FilePiece};
 ghost use Rattle.history_spec.specs.Composing.{IsComposable, AreEnds, composed, composed_after, replaced};
 ghost use Rattle.bib_steps.specs.Amending.{IsNear, AreWithin, amended};
 

@@ -1,6 +1,6 @@
 //! An edit inside a piece of a step.
 
-ghost use Rattle.std.specs.Prelude.{◌≡◌, IfSome};
+ghost use Rattle.std.specs.Prelude.{IfSome};
 ghost use Rattle.history_spec.specs.Composing.{IsComposable, IsComposableAt, AreEnds};
 ghost use Rattle.bib_steps.specs.Amending.{BeginsInside, LiesInside};
 

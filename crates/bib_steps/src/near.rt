@@ -1,9 +1,9 @@
 //! Which pieces of a step an edit is near.
 
-ghost use Rattle.std.specs.Prelude.{◌≡◌, ◌<◌, ◌≤◌, length, take, true, false};
+ghost use Rattle.std.specs.Prelude.{◌≡◌, ◌<◌, ◌≤◌, length, true, false};
 ghost use Rattle.bib_spec.specs.Bytes.{file_limit};
 ghost use Rattle.bib_spec.specs.Pieces.{EndBy};
-ghost use Rattle.history_spec.specs.Composing.{AreEnds, BeginsAfter, EndBefore, old_end};
+ghost use Rattle.history_spec.specs.Composing.{AreEnds, BeginsAfter, old_end};
 ghost use Rattle.bib_steps.specs.Amending.{BeginAfter, IsNear, end_at};
 
 use crate::spans::{begin_of, count_before, end_before, end_of};

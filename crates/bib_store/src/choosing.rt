@@ -1,6 +1,6 @@
 //! The fields of a record that have one of some names, gathered from one entry after another.
 
-ghost use Rattle.std.specs.Prelude.{◌≡◌, List, map, IfOk, IfErr, OnOk};
+ghost use Rattle.std.specs.Prelude.{◌≡◌, List, map, IfErr, OnOk};
 ghost use Rattle.std.specs.List.{AllZip, AllByRecursion, list_any};
 ghost use Rattle.bib_spec.specs.Text.{same};
 ghost use Rattle.bib_spec.specs.Tree.{Row};

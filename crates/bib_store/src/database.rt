@@ -65,7 +65,7 @@ impl<L: ItemList> Database<L> {
     ghost use Rattle.bib_spec.specs.Records.{entries_of, preambles_of, keys_of, entry_named, is_named, is_repeated, crossref_text, target};
     ghost use Rattle.bib_scan.specs.View.{view_of};
     ghost use Rattle.bib_scan.specs.Layout.{start_of};
-    ghost use Rattle.bib_entries.specs.EntryTable.{referrers, AreApart};
+    ghost use Rattle.bib_entries.specs.EntryTable.{numbers_having, referrers, AreApart};
     ghost use Rattle.bib_store.specs.Tables.{crossrefs_of};
     ghost use Rattle.part_spec.specs.Parts.{have_part};
     ghost use Rattle.bib_items.specs.Seeking.{test_of};
@@ -302,6 +302,14 @@ impl<L: ItemList> Database<L> {
         ensures count { IfSome result (λ h. OfReading self.now (λ db. h.count ≡ count_by (is_named key.now) (keys_of (entries_of db)))) }
     {
         self.tables.named.holders_of(key)
+    }
+
+    /// Of the entries that have this key, folded, in order, the number of the one at position `k`, counted from 0. It takes time in
+    /// the key's length.
+    pub fn nth_holder(&self, key: &[u8], k: usize) -> Option<usize>
+        ensures { OfReading self.now (λ db. result ≡ slice_get (numbers_having key.now (keys_of (entries_of db))) k) }
+    {
+        self.tables.named.nth_holder(key, k)
     }
 
     /// Whether it is known that no two entries have the same key, folded. It takes one step. Once two entries have had the

@@ -1,6 +1,6 @@
 //! Updating tables for items that come and go.
 
-ghost use Rattle.std.specs.Prelude.{◌≡◌, ◌+◌, ◌≤◌, ◌<◌, ◌^◌, ◌⊎◌, ℕ, List, ◌++◌, length, IsTrue, IfErr, OnOk, OnErr};
+ghost use Rattle.std.specs.Prelude.{◌≡◌, ◌+◌, ◌≤◌, ◌<◌, ◌^◌, ◌⊎◌, List, ◌++◌, length, IsTrue, IfErr, OnOk, OnErr};
 ghost use Rattle.bib_spec.specs.Reading.{Item};
 ghost use Rattle.bib_items.specs.declared.fault.StoreFault.TheVariants.{Memory, BadSplice};
 ghost use Rattle.bib_store.specs.TablesOf.{AreTablesOf};

@@ -1,6 +1,6 @@
 //! Runs of pieces that lie apart. The items that they touch come and go run by run; what is between runs is unchanged.
 
-ghost use Rattle.std.specs.Prelude.{◌≡◌, ◌+◌, ◌-◌, ◌≤◌, ◌<◌, ◌++◌, length, take, List, Some, None, IfOk, OnOk, OnErr};
+ghost use Rattle.std.specs.Prelude.{◌≡◌, ◌+◌, ◌-◌, ◌≤◌, ◌<◌, ◌++◌, length, take, List, Some, IfOk, OnOk, OnErr};
 ghost use Rattle.std.specs.List.{between};
 ghost use Rattle.bib_spec.specs.Text.{Text as Bytes};
 ghost use Rattle.bib_spec.specs.Reading.{Reading, Reads};
@@ -12,7 +12,7 @@ ghost use Rattle.bib_store.specs.Following.{MayPassBetween};
 ghost use Rattle.bib_store.specs.Runs.{IsRunChange, AreInserted, IsMeasured, StaysMeasured, StayFollowed, FollowInserted, ComesBack, LeadWithin};
 ghost use Rattle.bib_spec.specs.Pieces.{Fit, applied};
 ghost use Rattle.bib_store.specs.Stored.{file_of, IsKept};
-ghost use Rattle.bib_store.specs.Windows.{IsWindow, HasLead, IsLead, ArePut, exchanged};
+ghost use Rattle.bib_store.specs.Windows.{IsWindow, HasLead, ArePut, exchanged};
 
 use crate::change::{Change, change_near};
 use crate::exchanging::{can_follow, unchanged_first};

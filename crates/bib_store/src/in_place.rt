@@ -1,6 +1,6 @@
 //! Items that each replace one of their kind, in tables that are unchanged except for their bounds.
 
-ghost use Rattle.std.specs.Prelude.{◌≡◌, ◌+◌, ◌-◌, ◌≤◌, ◌<◌, ◌^◌, ◌∷◌, [], ℕ, List, true, Option, None, map, length, IsTrue, IsFalse, IfSome, IfOk, OnOk};
+ghost use Rattle.std.specs.Prelude.{◌≡◌, ◌+◌, ◌-◌, ◌≤◌, ◌<◌, ◌^◌, ◌∷◌, [], ℕ, List, true, None, map, length, IsTrue, IsFalse, IfSome, IfOk, OnOk};
 ghost use Rattle.bib_spec.specs.Bytes.{name_limit};
 ghost use Rattle.bib_spec.specs.Tree.{IsTree};
 ghost use Rattle.std.specs.List.{All};

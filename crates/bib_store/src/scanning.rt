@@ -1,9 +1,7 @@
 //! How many bytes a splice has to read: the number that `last_scan` tells.
 
 ghost use Rattle.std.specs.Prelude.{◌≡◌, ◌≤◌, ◌+◌, length};
-ghost use Rattle.std.specs.List.{flat_map};
 ghost use Rattle.bib_spec.specs.Bytes.{file_limit};
-ghost use Rattle.bib_items.specs.Items.{kept_bytes};
 ghost use Rattle.bib_store.specs.Stored.{file_of};
 
 use crate::touching::touched;

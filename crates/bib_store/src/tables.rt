@@ -1,10 +1,8 @@
 //! What is kept beside the items of a file.
 
-ghost use Rattle.std.specs.Prelude.{◌≡◌, ◌+◌, ◌-◌, ◌^◌, ◌≤◌, ◌<◌, ◌⊎◌, ℕ, suc, List, [], ◌∷◌, ◌++◌, Option, None, length, map, insert, nat_lt, if◌then◌else◌, slice_get, IfSome, IfOk, IfErr, OnOk, OnErr};
-ghost use Rattle.std.specs.Option.{option_copied};
+ghost use Rattle.std.specs.Prelude.{◌≡◌, ◌+◌, ◌-◌, ◌^◌, ◌≤◌, ◌<◌, ◌⊎◌, ℕ, suc, List, [], ◌∷◌, ◌++◌, Option, None, length, map, insert, nat_lt, if◌then◌else◌, IfSome, IfOk, IfErr, OnOk, OnErr};
 ghost use Rattle.bib_spec.specs.Reading.{Reading};
 ghost use Rattle.bib_spec.specs.Texts.{too_long_at};
-ghost use Rattle.bib_scan.specs.View.{kind_of};
 ghost use Rattle.bib_scan.specs.declared.view.Kind.TheVariants as kind;
 ghost use Rattle.bib_store.specs.declared.item_fault.ItemFault.TheVariants.{TooLong as ItemTooLong, Memory as ItemMemory, Unsettled as ItemUnsettled};
 ghost use Rattle.bib_spec.specs.Text.{Text as Bytes};

@@ -8,7 +8,7 @@ use Rattle.std.proofs.Math.Nat.{eq-or-lt_of_le}
 use Rattle.std.proofs.lemmas.List.{take_more, drop_more, append_assoc, take-take, length-take-le, length-drop}
 use Rattle.std.specs.Io.{WritesAtMost}
 use Rattle.std.specs.Io.KnownBytes.{Appends, WriteAppends}
-use Rattle.bib_streams.specs.Shown.{is_control, are_control, byte_shown, shown, begins_with_control, may_begin, IsPlainRun, IsPlainFront, ShowsFront, WritesShown}
+use Rattle.bib_streams.specs.Shown.{is_control, are_control, shown, begins_with_control, may_begin, IsPlainRun, IsPlainFront, WritesShown}
 
 neither-left : (x y : Bool) → (x || y) ≡ false → x ≡ false
 neither-left false y e = refl

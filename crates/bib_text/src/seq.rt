@@ -1,6 +1,6 @@
 //! Lists that own their members.
 
-ghost use Rattle.std.specs.Prelude.{◌≡◌, [], List, length, IfOk};
+ghost use Rattle.std.specs.Prelude.{◌≡◌, [], List, IfOk};
 
 use std::alloc::{AllocError, Global};
 use std::marker::Model;

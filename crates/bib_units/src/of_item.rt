@@ -1,6 +1,6 @@
 //! The units of an item, and of a text between items.
 
-ghost use Rattle.std.specs.Prelude.{◌≡◌, ◌≢◌, ◌≤◌, [], ◌++◌, List, Some, length, slice_get, OnOk};
+ghost use Rattle.std.specs.Prelude.{◌≡◌, ◌≢◌, ◌≤◌, [], ◌++◌, List, Some, length, OnOk};
 ghost use Rattle.bib_spec.specs.Bytes.{name_limit};
 ghost use Rattle.bib_spec.specs.Text.{Text};
 ghost use Rattle.bib_spec.specs.Tree.{Tree, IsTree, tree_bytes};

@@ -1,6 +1,6 @@
 //! Which items define each macro.
 
-ghost use Rattle.std.specs.Prelude.{◌≡◌, ◌≤◌, ◌++◌, ◌∷◌, [], ℕ, List, length, take, nat_lt, count_by, if◌then◌else◌, bytes_eq, IfOk, OnOk};
+ghost use Rattle.std.specs.Prelude.{◌≡◌, ◌++◌, ◌∷◌, [], List, take, nat_lt, count_by, if◌then◌else◌, bytes_eq, IfOk, OnOk};
 ghost use Rattle.std.specs.List.Sorted.{IsNonDecreasingBy};
 ghost use Rattle.bib_spec.specs.Text.{Text, folded};
 ghost use Rattle.bib_spec.specs.Reading.{Item};

@@ -1,14 +1,12 @@
 //! The entry of a side from which uses may come.
 
 ghost use Rattle.std.specs.Prelude.{◌≡◌, ◌++◌, ◌∷◌, [], false, List, find, bytes_eq, IfOk, OnOk};
-ghost use Rattle.std.specs.Option.{option_copied, option_map_or};
-ghost use Rattle.bib_spec.specs.Bytes.{name_limit};
-ghost use Rattle.bib_spec.specs.Text.{Text, folded};
+ghost use Rattle.std.specs.Option.{option_map_or};
+ghost use Rattle.bib_spec.specs.Text.{Text};
 ghost use Rattle.bib_spec.specs.Tree.{Row, value_bytes};
 ghost use Rattle.bib_spec.specs.Reading.{Reading};
 ghost use Rattle.bib_scan.specs.View.{Field, field_seen};
 ghost use Rattle.bib_store.specs.Readings.{OfReading};
-ghost use Rattle.folded_map.specs.FoldedMap.{value_at};
 ghost use Rattle.merge_spec.specs.ThreeWay.{is_row};
 ghost use Rattle.bib_sayings.specs.FieldTables.{IsTableOf, IsTableOfRows};
 ghost use Rattle.bib_uses.specs.Lost.{item_named, defined_at, defined_on};

@@ -40,7 +40,8 @@ pub record HasItsWords (shape : Shape) (c : Command) : Type 0 where
 -- the command takes each option that is given: `--print` if it makes a file or is `merge`, `--new-journal` and `--no-journal` if it adds a
 -- change, `--all-or-nothing` if it takes scripts, `--dropped` if it is `ris`, `--at` if it is `entry`, `--strict` if it is `cite`
 -- or `import`, `--latex` and `--skipped` if it is `import`, `--raw` if it is `json`, `--plain` if it is `ris`, `--bibtex` if it
--- is `show`, `cite`, `json` or `ris` and its file is the only one, `--before` and `--after` if it reads other files too (dialect)
+-- is `show`, `cite`, `labels`, `json`, `names` or `ris` and its file is the only one, `--before` and `--after` if it reads other
+-- files too (dialect)
 pub record HasItsOptions (verb : Verb) (c : Command) : Type 0 where
   pub print : c.print ≡ true → takes_print verb ≡ true
   pub new_journal : c.new_journal ≡ true → adds_change verb ≡ true

@@ -40,6 +40,7 @@ pub fn end<E: Write>(errors: &mut Tap<E>, text: &[u8], status: u8) -> u8
 /// The words of the command line could not be read: memory ran out, or they are not UTF-8.
 pub fn end_without_words<E: Write>(errors: &mut Tap<E>, error: &io::Error) -> u8
     ensures status { (result ≡ 2) ⊎ (result ≡ 4) }
+    ensures memory { result ≡ 4 → Tells (E.contents (tap_inner errors.old)) (E.contents (tap_inner errors.new)) (codes "bibkeep: 10 Memory\n") (has_failed errors.new) }
     ensures told { result ≡ 2 → Tells (E.contents (tap_inner errors.old)) (E.contents (tap_inner errors.new)) (codes "error: the words of the command line are not UTF-8\n") (has_failed errors.new) }
 {
     if error.kind() == ErrorKind::OutOfMemory {
@@ -55,6 +56,7 @@ pub fn end_without_words<E: Write>(errors: &mut Tap<E>, error: &io::Error) -> u8
 /// The file or its journal could not be opened.
 pub fn end_unopened<E: Write>(errors: &mut Tap<E>, error: &io::Error) -> u8
     ensures status { IsErrorStatus error.now result }
+    ensures memory { result ≡ 4 → Tells (E.contents (tap_inner errors.old)) (E.contents (tap_inner errors.new)) (codes "bibkeep: 10 Memory\n") (has_failed errors.new) }
     ensures told { result ≡ 3 → Tells (E.contents (tap_inner errors.old)) (E.contents (tap_inner errors.new)) (codes "bibkeep: read fault\n") (has_failed errors.new) }
 {
     if error.kind() == ErrorKind::OutOfMemory {
@@ -65,7 +67,8 @@ pub fn end_unopened<E: Write>(errors: &mut Tap<E>, error: &io::Error) -> u8
 
 /// Memory ran out.
 pub fn end_without_memory<E: Write>(errors: &mut Tap<E>) -> u8
-    ensures { result ≡ 4 }
+    ensures status { result ≡ 4 }
+    ensures told { Tells (E.contents (tap_inner errors.old)) (E.contents (tap_inner errors.new)) (codes "bibkeep: 10 Memory\n") (has_failed errors.new) }
 {
     end(errors, MEMORY, status::MEMORY)
 }
@@ -133,6 +136,7 @@ pub fn end_usage<O: Write, E: Write>(out: &mut Tap<O>, errors: &mut Tap<E>, usag
 /// The message of a run, and its status. There is no message if the reader of the output was gone before its end.
 pub fn end_run<E: Write>(errors: &mut Tap<E>, outcome: &Outcome, is_closed: bool) -> u8
     ensures status { result ≡ outcome.now.status }
+    ensures memory { outcome.now.status ≡ 4 → Tells (E.contents (tap_inner errors.old)) (E.contents (tap_inner errors.new)) (codes "bibkeep: 10 Memory\n") (has_failed errors.new) }
     ensures told { is_closed ≡ false → outcome.now.status ≢ 4 → Tells (E.contents (tap_inner errors.old)) (E.contents (tap_inner errors.new)) outcome.now.message (has_failed errors.new) }
     ensures silent { is_closed ≡ true → outcome.now.status ≡ 3 → errors.new ≡ errors.old }
 {

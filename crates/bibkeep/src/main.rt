@@ -1,5 +1,5 @@
-//! `bibkeep`: opens what the words of the command line name, runs the command, and says how it ended. Nothing is
-//! decided here: `bib_command` reads the words, and `bib_run` knows what a command does.
+//! `bibkeep`: opens what the words of the command line name, runs the command, and says how it ended. Here it is decided
+//! which files a command reads. `bib_command` reads the words; `bib_run`, `shelf_run` and `merge_run` know what a command does.
 #![tactic(auto)]
 
 ghost use Rattle.std.specs.Prelude.{◌≡◌, true, false, List, None, option_map, codes, IfOk, MatchResult};

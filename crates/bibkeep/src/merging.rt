@@ -1,9 +1,6 @@
 //! The three files of `merge`: they are read, and the merged file takes the place of ours.
 
-ghost use Rattle.std.specs.Prelude.{◌≡◌, false};
 ghost use Rattle.std.specs.Option.{option_copied};
-ghost use Rattle.bib_words.specs.Command.{IsCommand};
-ghost use Rattle.bib_files.specs.Folders.{Files};
 ghost use Rattle.bibkeep.specs.Merging.{RanMerge};
 ghost use Rattle.bibkeep.specs.Ending.{MergedAndFinished};
 

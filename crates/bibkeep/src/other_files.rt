@@ -1,6 +1,6 @@
 //! Files beside the one that a command is run over: the files that are read as one with it, a new file, and aux files.
 
-ghost use Rattle.std.specs.Prelude.{◌≡◌, ◌++◌, ◌∷◌, [], List, map, IfOk, OnOk};
+ghost use Rattle.std.specs.Prelude.{◌≡◌, ◌++◌, ◌∷◌, [], List, IfOk, OnOk};
 ghost use Rattle.bib_spec.specs.Text.{Text as FileText};
 ghost use Rattle.bib_shelf.specs.Joined.{AreJoined};
 ghost use Rattle.bibkeep.specs.Together.{all_names};

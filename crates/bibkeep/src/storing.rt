@@ -1,7 +1,7 @@
 //! Says how a run over a file ended, and puts in place what it leaves.
 
 ghost use Rattle.std.specs.Prelude.{◌≡◌, is_some};
-ghost use Rattle.std.specs.Option.{option_copied, option_map};
+ghost use Rattle.std.specs.Option.{option_copied};
 ghost use Rattle.bibkeep.specs.Ending.{IsFinished, leaves_some};
 
 use crate::endings::{end, end_run};

@@ -1,16 +1,18 @@
 -- Labels of listed entries, and their lines.
-use Rattle.std.proofs.Common.{◌≡◌, ◌∙◌, ℕ, ◌+◌, ◌<◌, ◌≤◌, List, ◌++◌, length, take, get_or, map, zip, min, Result, Ok, Err, sym, ap, arith}
+use Rattle.std.proofs.Common.{◌≡◌, ◌∙◌, ℕ, ◌+◌, ◌<◌, ◌≤◌, List, ◌++◌, length, take, get_or, map, zip, min, Result, sym, ap, arith}
 use Rattle.std.specs.List.{flat_map}
 use Rattle.std.proofs.lemmas.List.{get_or-map, length-map}
 use Rattle.bib_spec.specs.Text.{Text}
 use Rattle.bib_spec.specs.Records.{EntryTexts, Record}
+use Rattle.bib_store.specs.Choosing.{with_chosen}
 use Rattle.bib_names.specs.declared.fault.NameFault.{NameFault}
 use Rattle.bibtex_spec.specs.Listed.{ListedRecord}
 use Rattle.bibtex_spec.specs.ListLaws.{bare}
 use Rattle.bibtex_lists.specs.Records.{record_as_listed}
 use Rattle.bibtex_labels.specs.Fields.{map_ok}
-use Rattle.bibtex_labels.specs.Label.{all_labelled}
+use Rattle.bibtex_labels.specs.Label.{label_names, labelled, all_labelled}
 use Rattle.bibtex_labels.specs.Order.{in_order}
+use Rattle.bibtex_labels.proofs.LabelFields.{labelled_kept}
 use Rattle.bibtex_labels.specs.declared.ordering.Labelled.{Labelled}
 use Rattle.bibtex_places.specs.declared.lists.BibtexEntry.{BibtexEntry}
 use Rattle.bib_answers.specs.declared.answers.Answer.{Answer}
@@ -43,3 +45,7 @@ pub told_of_records : (entries : List EntryTexts) (list : List BibtexEntry) (rec
 told_of_records entries list records answer result have labelled is =
     is ∙ sym (ap (λ (r : Result (List Labelled) NameFault). lines_answer (map_ok (λ (es : List Labelled). ordered_lines (in_order es)) r)) labelled)
     ∙ ap labels_told (records_made entries list records have)
+
+-- a record is labelled as the record of which it has those fields that labels are made of
+pub labelled_as : (names : List Text) (chosen whole : Record) → names ≡ label_names → chosen ≡ with_chosen names whole → labelled chosen ≡ labelled whole
+labelled_as names chosen whole are is = ap labelled (is ∙ ap (λ (list : List Text). with_chosen list whole) are) ∙ labelled_kept whole

@@ -11,7 +11,7 @@ use Rattle.bibtex_spec.specs.Places.{is_star}
 use Rattle.bibtex_spec.specs.Listed.{ListedRecord}
 use Rattle.bib_answers.specs.declared.answers.Answer.{Answer}
 use Rattle.bib_answers.specs.Messages.{no_such_entry_line}
-use Rattle.bib_answers.specs.Names.{persons, before_lines, joined_lines, lines_answer}
+use Rattle.bib_answers.specs.Names.{persons, joined_lines, lines_answer}
 use Rattle.bib_answers.specs.Outcome.{answer_of}
 use Rattle.bibtex_answers.specs.Listed.{listed_answer}
 

@@ -1,6 +1,6 @@
 //! `cite --bibtex`: the keys that BibTeX lists.
 
-ghost use Rattle.std.specs.Prelude.{◌≡◌, ◌++◌, List, [], codes, IfOk, OnOk};
+ghost use Rattle.std.specs.Prelude.{◌≡◌, ◌++◌, [], codes, IfOk, OnOk};
 ghost use Rattle.std.specs.List.{flat_map};
 ghost use Rattle.std.specs.Option.{option_map_or};
 ghost use Rattle.bib_store.specs.Readings.{OfReading};

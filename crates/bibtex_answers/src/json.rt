@@ -18,7 +18,7 @@ use crate::opening::answer_file;
 use bib_answers::{Answer, done, no_such_entry, refused};
 use bib_store::{Database, Paged};
 use bib_text::Text;
-use bibtex_lists::{BibtexEntry, BibtexFault, BibtexList, listed_as_bibtex, record_as_bibtex};
+use bibtex_lists::{BibtexEntry, BibtexFault, listed_as_bibtex, record_as_bibtex};
 use entry_json::{JsonFault, add_line_in};
 use std::alloc::{AllocError, Global};
 

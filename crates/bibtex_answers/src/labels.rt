@@ -7,7 +7,7 @@ ghost use Rattle.bib_names.specs.declared.fault.NameFault.TheVariants.{Memory};
 ghost use Rattle.bibtex_spec.specs.Listed.{ListedRecord};
 ghost use Rattle.bibtex_spec.specs.ListLaws.{bare};
 ghost use Rattle.bibtex_lists.specs.Records.{record_as_listed};
-ghost use Rattle.bibtex_labels.specs.Label.{all_labelled};
+ghost use Rattle.bibtex_labels.specs.Label.{label_names, labelled, all_labelled};
 ghost use Rattle.bibtex_labels.specs.Order.{in_order};
 ghost use Rattle.bibtex_answers.specs.Entries.{HaveRecords};
 ghost use Rattle.bibtex_answers.specs.Labels.{ordered_lines, labels_told, labels_answer};
@@ -20,8 +20,8 @@ use crate::opening::answer_file;
 use bib_answers::{Answer, done, name_fault_answer, no_such_entry};
 use bib_store::{Database, Paged};
 use bib_text::Text;
-use bibtex_labels::{Labelled, in_order, labelled, lettered};
-use bibtex_lists::{BibtexEntry, BibtexFault, listed_as_bibtex, record_as_bibtex};
+use bibtex_labels::{Alpha, Labelled, in_order, label_names, lettered};
+use bibtex_lists::{BibtexEntry, BibtexFault, listed_as_bibtex, record_as_bibtex_with};
 use bibtex_names::NameFault;
 use std::alloc::{AllocError, Global};
 
@@ -77,12 +77,33 @@ fn all_labelled(
     ensures entries { IfOk result (λ entries. OfReading db.now (λ r. all_labelled (map (record_as_listed (entries_of r)) list.now) ≡ Ok entries.items)) }
     ensures fault { IfErr result (λ fault. fault ≢ Memory → OfReading db.now (λ r. all_labelled (map (record_as_listed (entries_of r)) list.now) ≡ Err fault)) }
 {
+    let alpha = Alpha::new(alloc)?;
+    let names = label_names(alloc)?;
     let mut entries = Vec::with_capacity(alloc, list.len())?;
     'entries: for entry in list {
-        let rec = record_as_bibtex(alloc, db, entry)?;
-        entries.push(labelled(alloc, &rec)?)?;
+        let one = entry_labelled(alloc, &alpha, db, names.as_slice(), entry)?;
+        entries.push(one)?;
     }
     Ok(entries)
+}
+
+/// A listed entry as it is labelled. Of the entries that give it fields, only those with these names are read.
+fn entry_labelled(
+    alloc: Global,
+    alpha: &Alpha,
+    db: &Database<Paged>,
+    names: &[&[u8]],
+    entry: &BibtexEntry,
+) -> Result<Labelled, NameFault>
+    requires { map (λ name. name.now) names.now ≡ label_names }
+    ensures labelled { IfOk result (λ one. OfReading db.now (λ r. labelled (record_as_listed (entries_of r) entry.now) ≡ Ok one)) }
+    ensures fault { IfErr result (λ fault. fault ≢ Memory → OfReading db.now (λ r. labelled (record_as_listed (entries_of r) entry.now) ≡ Err fault)) }
+{
+    let rec = record_as_bibtex_with(alloc, db, entry, names)?;
+    match alpha.labelled(alloc, &rec) {
+        Ok(one) => Ok(one),
+        Err(fault) => Err(fault),
+    }
 }
 
 /// A line for each of these entries, in the order of the bibliography.

@@ -1,6 +1,6 @@
 //! `names --bibtex`: the names of an entry, as BibTeX takes them apart and prints them.
 
-ghost use Rattle.std.specs.Prelude.{◌≡◌, ◌≢◌, List, [], Ok, Err, map, IfOk, IfErr};
+ghost use Rattle.std.specs.Prelude.{◌≡◌, ◌≢◌, List, Ok, Err, map, IfOk, IfErr};
 ghost use Rattle.bib_spec.specs.Records.{entries_of};
 ghost use Rattle.bib_store.specs.Readings.{OfReading};
 ghost use Rattle.bib_names.specs.declared.fault.NameFault.TheVariants.{Memory};

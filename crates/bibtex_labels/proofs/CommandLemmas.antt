@@ -1,12 +1,11 @@
 -- The texts between backslashes.
-use Rattle.std.proofs.Common.{◌≡◌, ◌∙◌, ℕ, zero, suc, ◌+◌, ◌<◌, ◌≤◌, Bool, true, false, List, [], ◌∷◌, ◌++◌, length, take, drop, not, cond, refl, sym, ap, arith, append_assoc, append-nil, add-one, drop-drop}
+use Rattle.std.proofs.Common.{◌≡◌, ◌∙◌, ℕ, suc, ◌+◌, ◌<◌, ◌≤◌, Bool, true, false, List, [], ◌∷◌, ◌++◌, length, map, take, drop, not, cond, refl, sym, ap, arith, append_assoc, append-nil, add-one, drop-drop}
 use Rattle.std.specs.Prelude.{◌==◌}
 use Rattle.std.specs.List.{flat_map, prefix_len}
-use Rattle.std.proofs.lemmas.List.{take_all}
 use Rattle.bib_spec.specs.Text.{Text}
 use Rattle.bib_spec.specs.Texts.{onto_first}
-use Rattle.bibtex_labels.specs.Pieces.{backslash}
-use Rattle.bibtex_labels.specs.Purified.{between_backslashes, purified_command}
+use Rattle.bibtex_labels.specs.Pieces.{backslash, single}
+use Rattle.bibtex_labels.specs.Purified.{between_backslashes, purified_byte, purified_command, purified_piece}
 
 -- the byte is no backslash
 abbrev pub is_other : ℕ → Bool
@@ -56,3 +55,18 @@ cut_here end text is within =
     cut text (omega (arith, is, within))
     ∙ ap (λ n. take n text ∷ between_backslashes (drop (suc n) text)) (sym is)
     ∙ ap (λ t. take end text ∷ between_backslashes t) (ap (λ n. drop n text) (sym (add-one end)) ∙ sym (drop-drop 1 end text))
+
+-- ---- bytes before a brace
+
+-- what is left of bytes that are pieces one by one, and of the pieces after them
+pub plain_left : (bytes : Text) (pieces rest : List Text) (out : Text) → pieces ≡ map single bytes ++ rest
+    → (out ++ flat_map purified_byte bytes) ++ flat_map purified_piece rest ≡ out ++ flat_map purified_piece pieces
+plain_left bytes pieces rest out is =
+    append_assoc out (flat_map purified_byte bytes) (flat_map purified_piece rest) ∙ ap (λ t. out ++ t) (by bytes) ∙ ap (λ (l : List Text). out ++ flat_map purified_piece l) (sym is)
+  where
+    by : (bytes : Text) → flat_map purified_byte bytes ++ flat_map purified_piece rest ≡ flat_map purified_piece (map single bytes ++ rest)
+    by [] = refl
+    by (byte ∷ bytes) =
+        append_assoc (purified_byte byte) (flat_map purified_byte bytes) (flat_map purified_piece rest)
+        ∙ ap (λ t. purified_byte byte ++ t) (by bytes)
+        ∙ ap (λ t. t ++ flat_map purified_piece (map single bytes ++ rest)) (sym (append-nil (purified_byte byte)))

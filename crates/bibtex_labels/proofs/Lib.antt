@@ -4,3 +4,4 @@ mod CommandLemmas
 mod OrderLemmas
 mod LetterLemmas
 mod NameLemmas
+pub mod LabelFields

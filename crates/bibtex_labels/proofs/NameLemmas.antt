@@ -1,5 +1,5 @@
 -- The letters of names, and names in the sort key.
-use Rattle.std.proofs.Common.{◌≡◌, ◌∙◌, ℕ, zero, suc, ◌+◌, ◌-◌, ◌<◌, ◌≤◌, Bool, true, false, List, [], ◌∷◌, ◌++◌, length, drop, get_or, slice_get, Option, Some, None, Result, Ok, Err, codes, unwrap_or, refl, sym, ap, arith, append_assoc, append-nil, add-one}
+use Rattle.std.proofs.Common.{◌≡◌, ◌∙◌, ℕ, ◌+◌, ◌-◌, ◌<◌, ◌≤◌, true, false, List, [], ◌∷◌, ◌++◌, length, drop, get_or, Option, Some, None, Result, Ok, Err, codes, unwrap_or, refl, sym, ap, append_assoc, append-nil}
 use Rattle.std.proofs.Common.{◌≢◌, IfOk, IfErr, OnOk, cond}
 use Rattle.std.proofs.lemmas.List.{drop_all, drop_more}
 use Rattle.std.specs.Str.{bytes_eq}
@@ -7,7 +7,7 @@ use Rattle.bib_spec.specs.Text.{Text, IsBalanced}
 use Rattle.bib_names.proofs.BalanceLaws.{balances-yes, balances-no}
 use Rattle.bib_names.specs.NameList.{names_of}
 use Rattle.bib_names.specs.declared.fault.NameFault.{NameFault}
-use Rattle.bib_names.specs.declared.fault.NameFault.TheVariants.{Memory, UnbalancedName, BadTemplate}
+use Rattle.bib_names.specs.declared.fault.NameFault.TheVariants.{Memory, UnbalancedName}
 use Rattle.bibtex_names.specs.NamesInLists.{given_template, template_in}
 use Rattle.bibtex_names.specs.Printing.{printed}
 use Rattle.bibtex_names.specs.Template.{Pattern, template_of}

@@ -1,10 +1,13 @@
 -- Pieces of texts, and what is inside of special characters.
-use Rattle.std.proofs.Common.{◌≡◌, ◌∙◌, ℕ, zero, suc, ◌+◌, ◌-◌, ◌<◌, ◌≤◌, Bool, true, false, List, [], ◌∷◌, ◌++◌, length, take, drop, get_or, filter, replicate, refl, sym, ap, subst, arith, append_assoc, append-nil, add-one, drop-cons, take-append-drop}
-use Rattle.std.specs.Prelude.{if◌then◌else◌}
+use Rattle.std.proofs.Common.{◌≡◌, ◌∙◌, ℕ, zero, suc, ◌+◌, ◌-◌, ◌<◌, ◌≤◌, Bool, true, false, List, [], ◌∷◌, ◌++◌, length, map, cond, take, drop, get_or, filter, refl, sym, ap, subst, arith, length-append, append_assoc, append-nil, add-one, drop-cons, take-append-drop}
+use Rattle.std.specs.Prelude.{if◌then◌else◌, ◌==◌, ◌&&◌, ◌||◌, not, slice_index}
+use Rattle.std.specs.List.{prefix_len}
 use Rattle.std.proofs.lemmas.List.{drop_all}
 use Rattle.std.proofs.lemmas.Bool.{cond-true, cond-false}
+use Rattle.bib_spec.specs.Bytes.{open_brace, close_brace}
 use Rattle.bib_spec.specs.Text.{Text}
-use Rattle.bibtex_labels.specs.Pieces.{depth_after, depth_from, inside_len, begins_special, pieces_from, pieces, joined, is_character, front_pieces}
+use Rattle.bib_names.specs.Template.{is_no_brace}
+use Rattle.bibtex_labels.specs.Pieces.{depth_after, depth_from, inside_len, begins_special, pieces_from, pieces, single, backslash, joined, is_character, front_pieces}
 
 -- ---- what is inside
 
@@ -62,6 +65,47 @@ pub byte_first : (depth byte : ℕ) (text after : Text) → text ≡ byte ∷ af
     → pieces_from depth 0 text ≡ take 1 text ∷ pieces_from (depth_after depth byte) 0 (drop 1 text)
 byte_first depth byte text after is plain =
     subst (λ t. pieces_from depth 0 t ≡ take 1 t ∷ pieces_from (depth_after depth byte) 0 (drop 1 t)) (sym is) (cond-false (begins_special depth byte after) _ _ plain)
+
+-- bytes before a brace are pieces one by one
+pub plain_first : (depth len : ℕ) (text : Text) → len ≡ prefix_len is_no_brace text → pieces_from depth 0 text ≡ map single (take len text) ++ pieces_from depth 0 (drop len text)
+plain_first depth len text is = by text ∙ ap (λ n. map single (take n text) ++ pieces_from depth 0 (drop n text)) (sym is)
+  where
+    by : (text : Text) → pieces_from depth 0 text ≡ map single (take (prefix_len is_no_brace text) text) ++ pieces_from depth 0 (drop (prefix_len is_no_brace text) text)
+    by [] = refl
+    by (byte ∷ text) = at (byte == open_brace) (byte == close_brace) refl refl (by text)
+      where
+        run : ℕ
+        run = prefix_len is_no_brace text
+
+        -- the byte is no brace, and opens nothing
+        plain : byte == open_brace ≡ false → byte == close_brace ≡ false → pieces_from depth 0 (byte ∷ text) ≡ (byte ∷ []) ∷ pieces_from depth 0 text
+        plain opens closes =
+            cond-false (begins_special depth byte text) _ _ (ap (λ b. depth == 0 && b && slice_index text 0 == backslash) opens ∙ none (depth == 0))
+            ∙ ap (λ d. (byte ∷ []) ∷ pieces_from d 0 text) (cond-false (byte == open_brace) (depth + 1) (cond (byte == close_brace) (depth - 1) depth) opens ∙ cond-false (byte == close_brace) (depth - 1) depth closes)
+          where
+            none : (b : Bool) → (b && false && slice_index text 0 == backslash) ≡ false
+            none true = refl
+            none false = refl
+
+        stops : is_no_brace byte ≡ false → pieces_from depth 0 (byte ∷ text) ≡ map single (take (prefix_len is_no_brace (byte ∷ text)) (byte ∷ text)) ++ pieces_from depth 0 (drop (prefix_len is_no_brace (byte ∷ text)) (byte ∷ text))
+        stops brace = ap (λ (n : ℕ). map single (take n (byte ∷ text)) ++ pieces_from depth 0 (drop n (byte ∷ text))) (sym (cond-false (is_no_brace byte) (1 + run) 0 brace))
+
+        goes : is_no_brace byte ≡ true → pieces_from depth 0 (byte ∷ text) ≡ (byte ∷ []) ∷ pieces_from depth 0 text → pieces_from depth 0 text ≡ map single (take run text) ++ pieces_from depth 0 (drop run text)
+            → pieces_from depth 0 (byte ∷ text) ≡ map single (take (prefix_len is_no_brace (byte ∷ text)) (byte ∷ text)) ++ pieces_from depth 0 (drop (prefix_len is_no_brace (byte ∷ text)) (byte ∷ text))
+        goes other first later =
+            let one : 1 + run ≡ suc run = omega arith in
+            first ∙ ap (λ (l : List Text). (byte ∷ []) ∷ l) later
+            ∙ ap (λ (n : ℕ). map single (take n (byte ∷ text)) ++ pieces_from depth 0 (drop n (byte ∷ text))) (sym (cond-true (is_no_brace byte) (1 + run) 0 other ∙ one))
+
+        at : (opens closes : Bool) → byte == open_brace ≡ opens → byte == close_brace ≡ closes → pieces_from depth 0 text ≡ map single (take run text) ++ pieces_from depth 0 (drop run text)
+            → pieces_from depth 0 (byte ∷ text) ≡ map single (take (prefix_len is_no_brace (byte ∷ text)) (byte ∷ text)) ++ pieces_from depth 0 (drop (prefix_len is_no_brace (byte ∷ text)) (byte ∷ text))
+        at true closes opens_is closes_is later = stops (ap (λ b. not (b || byte == close_brace)) opens_is)
+        at false true opens_is closes_is later = stops (ap (λ b. not (b || byte == close_brace)) opens_is ∙ ap not closes_is)
+        at false false opens_is closes_is later = goes (ap (λ b. not (b || byte == close_brace)) opens_is ∙ ap not closes_is) (plain opens_is closes_is) later
+
+-- there are no more pieces after them than with them
+pub plain_fewer : (bytes : Text) (pieces rest : List Text) → pieces ≡ map single bytes ++ rest → length rest ≤ length pieces
+plain_fewer bytes pieces rest is = let all : length pieces ≡ length (map single bytes) + length rest = ap length is ∙ length-append (map single bytes) rest in omega (arith, all)
 
 -- ---- the pieces are the text
 

@@ -37,6 +37,17 @@ whole_template = spelled (codes "{ff }{vv }{ll}{ jj}")
 unfoldable pub sorted_template : Pattern
 sorted_template = spelled (codes "{vv{ } }{ll{ }}{  ff{ }}{  jj{ }}")
 
+-- the templates by which a style prints names
+pub record NameTemplates : Type 0 where
+  pub initials : Pattern
+  pub last : Pattern
+  pub whole : Pattern
+  pub sorted : Pattern
+
+-- those of the style
+abbrev pub alpha_templates : NameTemplates
+alpha_templates = record { initials = initials_template; last = last_template; whole = whole_template; sorted = sorted_template }
+
 -- the word that stands for further names
 abbrev pub others : Text
 others = codes "others"
@@ -123,6 +134,10 @@ sorted_title title =
     sortified (without_front (codes "A ") (without_front (codes "An ") (without_front (codes "The ") title)))
 
 -- ---- labels
+
+-- the names of the fields that labels are made of
+abbrev pub label_names : List Text
+label_names = codes "author" ∷ codes "editor" ∷ codes "key" ∷ codes "organization" ∷ codes "title" ∷ codes "year" ∷ []
 
 -- the last bytes of a text, so many of them
 abbrev pub last_bytes : ℕ → Text → Text

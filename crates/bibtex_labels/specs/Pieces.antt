@@ -39,6 +39,10 @@ pieces_from depth zero (byte ∷ text) =
     if begins_special depth byte text then (byte ∷ take (inside_len 1 text) text) ∷ pieces_from 0 (inside_len 1 text) text
     else (byte ∷ []) ∷ pieces_from (depth_after depth byte) 0 text
 
+-- the piece that is this byte
+abbrev pub single : ℕ → Text
+single byte = byte ∷ []
+
 -- the pieces of a text
 abbrev pub pieces : Text → List Text
 pieces text = pieces_from 0 0 text

@@ -1,15 +1,31 @@
 //! The fields of a record that a label is made of.
 
-ghost use Rattle.std.specs.Prelude.{◌≡◌, codes};
+ghost use Rattle.std.specs.Prelude.{◌≡◌, map, IfOk};
 ghost use Rattle.std.specs.List.{list_all};
 ghost use Rattle.bib_spec.specs.Text.{is_space};
 ghost use Rattle.bibtex_labels.specs.Fields.{field_in, or_else, is_book, is_proceedings, is_corporate, persons_of, organization_of};
-ghost use Rattle.bibtex_labels.specs.Label.{without_front};
+ghost use Rattle.bibtex_labels.specs.Label.{label_names, without_front};
 
 use crate::kept::first_bytes;
 use bib_data::Record;
 use bib_names::text_in;
-use bib_text::{Text, is_space};
+use bib_text::{Seq, Text, is_space};
+use std::alloc::{AllocError, Global};
+
+/// The names of the fields that labels are made of: to make them, a caller needs no other fields.
+pub fn label_names(alloc: Global) -> Result<Seq<&'static [u8]>, AllocError>
+    ensures { IfOk result (λ names. map (λ n. n.now) names ≡ label_names) }
+{
+    let names: [&[u8]; 6] = [
+        b"author",
+        b"editor",
+        b"key",
+        b"organization",
+        b"title",
+        b"year",
+    ];
+    Ok(Seq::from_vec(Vec::from_slice(alloc, &names)?))
+}
 
 /// Whether the text is white space alone.
 fn is_blank(text: &[u8]) -> bool

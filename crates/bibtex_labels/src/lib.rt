@@ -5,6 +5,7 @@
 //! Promises: the label and the sort key of each record; its place in the one order; the letter.
 #![tactic(auto)]
 
+mod alpha;
 mod fields;
 mod kept;
 mod label;
@@ -16,7 +17,8 @@ mod prefix;
 mod purifying;
 mod rows;
 
-pub use label::labelled;
+pub use alpha::Alpha;
+pub use fields::label_names;
 pub use laws::{one_order, pieces_are_the_text};
 pub use ordering::{Labelled, in_order, lettered};
 pub use prefix::{is_one_character, text_prefix};

@@ -5,8 +5,9 @@ ghost use Rattle.bib_names.specs.declared.fault.NameFault.TheVariants.{Memory};
 ghost use Rattle.bibtex_names.specs.NamesInLists.{parts_in};
 ghost use Rattle.bibtex_names.specs.Printing.{printed};
 ghost use Rattle.bibtex_labels.specs.Fields.{map_all, names_listed, names_in};
-ghost use Rattle.bibtex_labels.specs.Label.{spelled, initials_template, last_template, whole_template, sorted_template, initials_of, ends_with_others, letters_of_one, letters_of_many, letters_of_names, sorted_name, sorted_names};
+ghost use Rattle.bibtex_labels.specs.Label.{initials_of, ends_with_others, letters_of_one, letters_of_many, letters_of_names, sorted_name, sorted_names};
 
+use crate::alpha::Alpha;
 use crate::prefix::{is_one_character, text_prefix};
 use crate::purifying::sortified;
 use bib_text::{Seq, Text};
@@ -42,16 +43,6 @@ pub(crate) fn names_in(alloc: Global, list: &[u8]) -> Result<Vec<Name<'_>>, Name
     all_parts(alloc, names.as_slice())
 }
 
-/// The template that the text spells.
-fn spelled(alloc: Global, text: &[u8]) -> Result<Template, AllocError>
-    ensures { IfOk result (λ t. t ≡ spelled text.now) }
-{
-    match Template::read(alloc, text) {
-        Ok(template) => Ok(template),
-        Err(_) => Err(AllocError),
-    }
-}
-
 /// The print of a name.
 fn print(template: &Template, name: &Name<'_>) -> Result<Text, AllocError>
     ensures { IfOk result (λ text. text ≡ printed template.now name.now) }
@@ -62,99 +53,70 @@ fn print(template: &Template, name: &Name<'_>) -> Result<Text, AllocError>
     }
 }
 
-/// The template of initials.
-#[tactic(auto, unfolding(crate::specs::Label::initials_template))]
-fn initials_template(alloc: Global) -> Result<Template, AllocError>
-    ensures { IfOk result (λ t. t ≡ initials_template) }
-{
-    spelled(alloc, b"{v{}}{l{}}")
-}
-
-/// The template of the last name.
-#[tactic(auto, unfolding(crate::specs::Label::last_template))]
-fn last_template(alloc: Global) -> Result<Template, AllocError>
-    ensures { IfOk result (λ t. t ≡ last_template) }
-{
-    spelled(alloc, b"{ll}")
-}
-
-/// The template of the whole name.
-#[tactic(auto, unfolding(crate::specs::Label::whole_template))]
-fn whole_template(alloc: Global) -> Result<Template, AllocError>
-    ensures { IfOk result (λ t. t ≡ whole_template) }
-{
-    spelled(alloc, b"{ff }{vv }{ll}{ jj}")
-}
-
-/// The template of names in the sort key.
-#[tactic(auto, unfolding(crate::specs::Label::sorted_template))]
-fn sorted_template(alloc: Global) -> Result<Template, AllocError>
-    ensures { IfOk result (λ t. t ≡ sorted_template) }
-{
-    spelled(alloc, b"{vv{ } }{ll{ }}{  ff{ }}{  jj{ }}")
-}
-
 /// The initials of these names.
-fn initials_of(alloc: Global, names: &[Name<'_>]) -> Result<Vec<u8>, AllocError>
+fn initials_of(alloc: Global, alpha: &Alpha, names: &[Name<'_>]) -> Result<Vec<u8>, AllocError>
     ensures { IfOk result (λ t. t.items ≡ initials_of names.now) }
 {
-    let template = initials_template(alloc)?;
+    let template = alpha.initials();
     let mut out = Vec::new(alloc);
     'names: for name in names {
-        out.extend_from_slice(print(&template, name)?.as_slice())?;
+        out.extend_from_slice(print(template, name)?.as_slice())?;
     }
     Ok(out)
 }
 
 /// Whether the last of these names is `others`.
-fn ends_with_others(alloc: Global, names: &[Name<'_>]) -> Result<bool, AllocError>
+fn ends_with_others(alpha: &Alpha, names: &[Name<'_>]) -> Result<bool, AllocError>
     ensures { IfOk result (λ yes. yes ≡ ends_with_others names.now) }
 {
     let Some((last, _)) = names.split_last() else {
         return Ok(false);
     };
-    let template = whole_template(alloc)?;
-    Ok(print(&template, last)?.as_slice() == b"others".as_slice())
+    Ok(print(alpha.whole(), last)?.as_slice() == b"others".as_slice())
 }
 
 /// The letters of one name.
-fn letters_of_one(alloc: Global, name: &Name<'_>) -> Result<Vec<u8>, AllocError>
+fn letters_of_one(alloc: Global, alpha: &Alpha, name: &Name<'_>) -> Result<Vec<u8>, AllocError>
     ensures { IfOk result (λ t. t.items ≡ letters_of_one name.now) }
 {
-    let initials = print(&initials_template(alloc)?, name)?;
+    let initials = print(alpha.initials(), name)?;
     if is_one_character(initials.as_slice()) {
-        let last = print(&last_template(alloc)?, name)?;
+        let last = print(alpha.last(), name)?;
         return Ok(text_prefix(alloc, 3, last.as_slice())?.into_vec());
     }
     Ok(initials.into_vec())
 }
 
 /// The letters of two names or more.
-fn letters_of_many(alloc: Global, names: &[Name<'_>]) -> Result<Vec<u8>, AllocError>
+fn letters_of_many(alloc: Global, alpha: &Alpha, names: &[Name<'_>]) -> Result<Vec<u8>, AllocError>
     requires { 0 < length names.now }
     ensures { IfOk result (λ t. t.items ≡ letters_of_many names.now) }
 {
     let len = names.len();
     let listed = if len > 4 {
         3
-    } else if ends_with_others(alloc, names)? {
+    } else if ends_with_others(alpha, names)? {
         len - 1
     } else {
-        return initials_of(alloc, names);
+        return initials_of(alloc, alpha, names);
     };
-    let mut out = initials_of(alloc, names.split_at(listed).0)?;
+    let mut out = initials_of(alloc, alpha, names.split_at(listed).0)?;
     out.extend_from_slice(b"{\\etalchar{+}}")?;
     Ok(out)
 }
 
 /// The letters of names.
-pub(crate) fn letters_of_names(alloc: Global, names: &[Name<'_>]) -> Result<Vec<u8>, AllocError>
+pub(crate) fn letters_of_names(
+    alloc: Global,
+    alpha: &Alpha,
+    names: &[Name<'_>],
+) -> Result<Vec<u8>, AllocError>
     ensures { IfOk result (λ t. t.items ≡ letters_of_names names.now) }
 {
     match names {
         [] => Ok(Vec::new(alloc)),
-        [name] => letters_of_one(alloc, name),
-        _ => letters_of_many(alloc, names),
+        [name] => letters_of_one(alloc, alpha, name),
+        _ => letters_of_many(alloc, alpha, names),
     }
 }
 
@@ -162,14 +124,13 @@ pub(crate) fn letters_of_names(alloc: Global, names: &[Name<'_>]) -> Result<Vec<
 fn push_sorted_name(
     out: &mut Vec<u8>,
     alloc: Global,
-    template: &Template,
+    alpha: &Alpha,
     name: &Name<'_>,
     is_last: bool,
 ) -> Result<(), AllocError>
-    requires { template.now ≡ sorted_template }
     ensures { OnOk result (out.new.items ≡ out.old.items ++ sorted_name is_last name.now) }
 {
-    let text = print(template, name)?;
+    let text = print(alpha.sorted(), name)?;
     if is_last && text.as_slice() == b"others".as_slice() {
         return out.extend_from_slice(b"et al");
     }
@@ -177,18 +138,21 @@ fn push_sorted_name(
 }
 
 /// Names in the sort key.
-pub(crate) fn sorted_names(alloc: Global, names: &[Name<'_>]) -> Result<Vec<u8>, AllocError>
+pub(crate) fn sorted_names(
+    alloc: Global,
+    alpha: &Alpha,
+    names: &[Name<'_>],
+) -> Result<Vec<u8>, AllocError>
     ensures { IfOk result (λ t. t.items ≡ sorted_names names.now) }
 {
-    let template = sorted_template(alloc)?;
     let mut out = Vec::new(alloc);
     let Some((last, front)) = names.split_last() else {
         return Ok(out);
     };
     'names: for name in front {
-        push_sorted_name(&mut out, alloc, &template, name, false)?;
+        push_sorted_name(&mut out, alloc, alpha, name, false)?;
         out.extend_from_slice(b"   ")?;
     }
-    push_sorted_name(&mut out, alloc, &template, last, true)?;
+    push_sorted_name(&mut out, alloc, alpha, last, true)?;
     Ok(out)
 }

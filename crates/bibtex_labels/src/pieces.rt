@@ -1,7 +1,9 @@
 //! The pieces of a text: its special characters, and its other bytes one by one.
 
-ghost use Rattle.std.specs.Prelude.{◌≡◌, ◌<◌, ◌≤◌, ◌+◌, ◌^◌, ◌∷◌, [], length, drop, take, IfSome, IfNone};
-ghost use Rattle.bibtex_labels.specs.Pieces.{depth_after, inside_len, begins_special, pieces, is_character};
+ghost use Rattle.std.specs.Prelude.{◌≡◌, ◌<◌, ◌≤◌, ◌+◌, ◌^◌, ◌∷◌, ◌++◌, [], length, map, IfSome, IfNone};
+ghost use Rattle.std.specs.List.{prefix_len};
+ghost use Rattle.bib_names.specs.Template.{is_no_brace};
+ghost use Rattle.bibtex_labels.specs.Pieces.{depth_after, inside_len, begins_special, pieces, single, is_character};
 
 use std::marker::Model;
 
@@ -38,6 +40,16 @@ fn begins_special(depth: usize, byte: u8, after: &[u8]) -> bool
     ensures { result ≡ begins_special depth byte after.now }
 {
     depth == 0 && byte == b'{' && after.first() == Some(&b'\\')
+}
+
+/// How many bytes there are before the first brace.
+fn plain_len(text: &[u8]) -> usize
+    ensures len { result ≡ prefix_len is_no_brace text.now }
+    ensures within { result ≤ length text.now }
+{
+    text.iter()
+        .take_while(|b| **b != b'{' && **b != b'}')
+        .count()
 }
 
 /// The pieces of a text that are still to come, from the front. They take no memory.
@@ -80,6 +92,15 @@ impl<'a> Pieces<'a> {
         let (piece, text) = text.split_at(1);
         let depth = depth_after(depth, *byte);
         Some((piece, Pieces { text, depth }))
+    }
+
+    /// The bytes before the next brace, and the pieces after them.
+    pub fn split_plain(self) -> (&'a [u8], Pieces<'a>)
+        ensures { self.entry ≡ map single result.0.now ++ result.1 }
+    {
+        let (text, depth) = (self.text, self.depth);
+        let (plain, text) = text.split_at(plain_len(text));
+        (plain, Pieces { text, depth })
     }
 }
 

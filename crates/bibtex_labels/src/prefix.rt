@@ -1,7 +1,6 @@
 //! The first text characters of a text.
 
-ghost use Rattle.std.specs.Prelude.{◌≡◌, ◌≤◌, ◌++◌, nat_lt, length, replicate, IfOk, OnOk};
-ghost use Rattle.bib_spec.specs.Bytes.{close_brace};
+ghost use Rattle.std.specs.Prelude.{◌≡◌, nat_lt, IfOk};
 ghost use Rattle.bibtex_labels.specs.Pieces.{depth_from, pieces, joined, front_pieces, closed, text_length, text_prefix};
 
 use crate::pieces::{Pieces, depth_after, is_character};

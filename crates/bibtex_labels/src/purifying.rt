@@ -5,7 +5,7 @@ ghost use Rattle.std.specs.List.{flat_map, list_any, prefix_len};
 ghost use Rattle.std.specs.Str.{bytes_eq};
 ghost use Rattle.bib_spec.specs.Text.{folded};
 ghost use Rattle.bibtex_labels.specs.Pieces.{backslash, pieces};
-ghost use Rattle.bibtex_labels.specs.Purified.{is_letter, is_alphanumeric, is_separator, purified_byte, two_letters, one_letter, foreign_letters, purified_command, between_backslashes, purified_special, purified_piece, purified, sortified};
+ghost use Rattle.bibtex_labels.specs.Purified.{is_letter, is_alphanumeric, is_separator, purified_byte, two_letters, one_letter, foreign_letters, purified_command, between_backslashes, purified_piece, purified, sortified};
 
 use crate::kept::first_bytes;
 use crate::pieces::Pieces;
@@ -160,14 +160,24 @@ fn push_piece(out: &mut Vec<u8>, piece: &[u8]) -> Result<(), AllocError>
     }
 }
 
+/// Adds what is left of the bytes before the next brace, and gives the pieces after them.
+fn push_plain<'a>(out: &mut Vec<u8>, pieces: Pieces<'a>) -> Result<Pieces<'a>, AllocError>
+    ensures rest { IfOk result (λ rest. out.new.items ++ flat_map purified_piece rest ≡ out.old.items ++ flat_map purified_piece pieces.entry) }
+    ensures fewer { IfOk result (λ rest. length rest ≤ length pieces.entry) }
+{
+    let (plain, rest) = pieces.split_plain();
+    push_bytes(out, plain)?;
+    Ok(rest)
+}
+
 /// Adds what is left of a text.
 pub(crate) fn push_purified(out: &mut Vec<u8>, text: &[u8]) -> Result<(), AllocError>
     ensures { OnOk result (out.new.items ≡ out.old.items ++ purified text.now) }
 {
-    let mut pieces = Pieces::of(text);
+    let mut pieces = push_plain(out, Pieces::of(text))?;
     'pieces: while let Some((piece, rest)) = pieces.next() {
         push_piece(out, piece)?;
-        pieces = rest;
+        pieces = push_plain(out, rest)?;
     }
     Ok(())
 }
@@ -178,16 +188,23 @@ pub(crate) fn push_purified(out: &mut Vec<u8>, text: &[u8]) -> Result<(), AllocE
 pub fn purified(alloc: Global, text: &[u8]) -> Result<Text, AllocError>
     ensures { IfOk result (λ t. t ≡ purified text.now) }
 {
-    let mut out = Vec::new(alloc);
+    let mut out = Vec::with_capacity(alloc, text.len())?;
     push_purified(&mut out, text)?;
     Ok(Seq::from_vec(out))
+}
+
+/// The text in lower case, in the memory that it has.
+pub(crate) fn in_lower_case(text: Text) -> Text
+    ensures { result ≡ folded text }
+{
+    let mut bytes = text.into_vec();
+    bytes.make_ascii_lowercase();
+    Seq::from_vec(bytes)
 }
 
 /// The same in lower case, by which styles sort.
 pub fn sortified(alloc: Global, text: &[u8]) -> Result<Text, AllocError>
     ensures { IfOk result (λ t. t ≡ sortified text.now) }
 {
-    let mut out = purified(alloc, text)?.into_vec();
-    out.make_ascii_lowercase();
-    Ok(Seq::from_vec(out))
+    Ok(in_lower_case(purified(alloc, text)?))
 }

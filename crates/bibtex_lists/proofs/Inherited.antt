@@ -8,6 +8,7 @@ use Rattle.bib_spec.specs.Tree.{Entry, Tree, EntryTree}
 use Rattle.bib_spec.specs.Reading.{Item}
 use Rattle.bib_spec.specs.Texts.{Macros}
 use Rattle.bib_spec.specs.Records.{EntryTexts, RecordField, Record, own_fields, missing, fields_at, with_inherited, texts_of}
+use Rattle.bib_store.specs.Choosing.{chosen, with_chosen}
 use Rattle.bib_scan.specs.View.{View, view_of, head_of}
 use Rattle.bibtex_places.specs.declared.lists.BibtexEntry.{BibtexEntry}
 use Rattle.bibtex_lists.specs.Records.{kind_at, record_as_listed}
@@ -34,6 +35,13 @@ record_from kind key fields = record { kind_name = kind; key = key; fields = fie
 pub record_is : (entries : List EntryTexts) (listed : BibtexEntry) (kind key : Text) (fields : List RecordField) → kind ≡ kind_at entries listed.entry → key ≡ listed.key
     → fields ≡ with_inherited entries (fields_at entries listed.entry) listed.up → record_from kind key fields ≡ record_as_listed entries listed
 record_is entries listed kind key fields k t f =
+    ap (λ x. record_from x key fields) k
+    ∙ ap (λ y. record_from (kind_at entries listed.entry) y fields) t
+    ∙ ap (record_from (kind_at entries listed.entry) listed.key) f
+
+pub chosen_record_is : (names : List Text) (entries : List EntryTexts) (listed : BibtexEntry) (kind key : Text) (fields : List RecordField) → kind ≡ kind_at entries listed.entry → key ≡ listed.key
+    → fields ≡ chosen names (with_inherited entries (fields_at entries listed.entry) listed.up) → record_from kind key fields ≡ with_chosen names (record_as_listed entries listed)
+chosen_record_is names entries listed kind key fields k t f =
     ap (λ x. record_from x key fields) k
     ∙ ap (λ y. record_from (kind_at entries listed.entry) y fields) t
     ∙ ap (record_from (kind_at entries listed.entry) listed.key) f

@@ -1,2 +1,3 @@
 pub mod EntryKeys
 pub mod Inherited
+pub mod Chosen

@@ -1,6 +1,6 @@
 //! The keys and the crossref texts of a file's entries.
 
-ghost use Rattle.std.specs.Prelude.{◌≡◌, IfOk};
+ghost use Rattle.std.specs.Prelude.{IfOk};
 ghost use Rattle.bib_spec.specs.Records.{entries_of};
 ghost use Rattle.bib_store.specs.Readings.{OfReading};
 ghost use Rattle.bibtex_places.specs.Lists.{AreKeysOf};

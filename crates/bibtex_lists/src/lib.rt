@@ -3,6 +3,7 @@
 //! a refusal.
 #![tactic(auto)]
 
+mod choosing;
 mod entry_keys;
 mod gathering;
 mod listing;
@@ -11,4 +12,4 @@ mod texts;
 
 pub use bibtex_places::{BibtexEntry, BibtexFault, BibtexList};
 pub use listing::listed_as_bibtex;
-pub use records::record_as_bibtex;
+pub use records::{record_as_bibtex, record_as_bibtex_with};

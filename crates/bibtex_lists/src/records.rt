@@ -1,12 +1,13 @@
 //! Records of listed entries.
 
-ghost use Rattle.std.specs.Prelude.{◌≡◌, ◌++◌, IfOk, OnOk};
-ghost use Rattle.bib_spec.specs.Text.{folded};
+ghost use Rattle.std.specs.Prelude.{◌≡◌, ◌++◌, map, IfOk, OnOk};
 ghost use Rattle.bib_spec.specs.Records.{entries_of, missing, fields_at, with_inherited};
 ghost use Rattle.bib_store.specs.Readings.{OfReading, IsEntryNumber};
+ghost use Rattle.bib_store.specs.Choosing.{with_chosen};
 ghost use Rattle.bib_store.specs.Gathering.{AreTaken};
 ghost use Rattle.bibtex_lists.specs.Records.{kind_at, record_as_listed};
 
+use crate::choosing::{choose_inherited, chosen_of};
 use crate::gathering::{Gathered, lower};
 use bib_store::{Database, ItemList, Record};
 use bib_text::{Seq, Text, copied};
@@ -90,5 +91,27 @@ pub fn record_as_bibtex<L: ItemList>(
         kind_name,
         key,
         fields: fields.into_fields(),
+    })
+}
+
+/// The record that `record_as_bibtex` gives, with only those fields that have one of these names, without regard to ASCII case. It
+/// takes memory for those fields alone, and time in the bytes of all entries that it reads, times the number of names. It is refused
+/// only out of memory.
+pub fn record_as_bibtex_with<L: ItemList>(
+    alloc: Global,
+    db: &Database<L>,
+    listed: &BibtexEntry,
+    names: &[&[u8]],
+) -> Result<Record, AllocError>
+    ensures { IfOk result (λ rec. OfReading db.now (λ r. rec ≡ with_chosen (map (λ name. name.now) names.now) (record_as_listed (entries_of r) listed.now))) }
+{
+    let kind_name = kind_of(alloc, db, listed.entry)?;
+    let key = copied(alloc, listed.key.as_slice())?;
+    let mut fields = chosen_of(alloc, db, listed.entry, names)?;
+    choose_inherited(alloc, db, listed.up.as_slice(), names, &mut fields)?;
+    Ok(Record {
+        kind_name,
+        key,
+        fields: Seq::from_vec(fields),
     })
 }

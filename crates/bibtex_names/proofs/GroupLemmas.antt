@@ -1,5 +1,5 @@
 -- The length of the group at the front of a text.
-use Rattle.bib_names.proofs.Words.{◌≡◌, ℕ, ◌+◌, ◌≤◌, ◌<◌, true, false, length, sym, ap, arith, Text, is_level}
+use Rattle.bib_names.proofs.Words.{◌≡◌, ℕ, ◌+◌, ◌≤◌, ◌<◌, true, length, sym, ap, arith, Text, is_level}
 use Rattle.std.specs.Prelude.{not}
 use Rattle.bib_names.proofs.PlaceLemmas.{run_to_end}
 use Rattle.bib_names.proofs.SpecialLemmas.{NoneLevel, group_found}

@@ -1,5 +1,5 @@
 -- The groups of a template that are read from left to right.
-use Rattle.bib_names.proofs.Words.{◌≡◌, ℕ, ◌+◌, ◌-◌, ◌≤◌, ◌<◌, Bool, true, false, cond, List, [], ◌∷◌, ◌++◌, length, drop, map, refl, sym, ap, ◌∙◌, arith, append-nil, Text, balances, places_from}
+use Rattle.bib_names.proofs.Words.{◌≡◌, ℕ, ◌+◌, ◌-◌, ◌≤◌, ◌<◌, true, false, cond, List, [], ◌∷◌, ◌++◌, length, drop, map, refl, sym, ap, ◌∙◌, arith, append-nil, Text, balances, places_from}
 use Rattle.std.proofs.Common.{append_assoc}
 use Rattle.std.specs.Prelude.{Option, Some, None, Err, Ok, option_map}
 use Rattle.std.specs.List.{take_while}
@@ -7,7 +7,7 @@ use Rattle.bib_names.specs.Template.{is_no_brace}
 use Rattle.bib_names.specs.declared.fault.NameFault.TheVariants.{BadTemplate}
 use Rattle.bib_names.proofs.PlaceLemmas.{places_here, places_past, places_none}
 use Rattle.bibtex_names.specs.NamesInLists.{given_template, template_in}
-use Rattle.bibtex_names.specs.Template.{Pattern, begins_group_at, front_group, all_of, groups_of, template_of}
+use Rattle.bibtex_names.specs.Template.{Pattern, begins_group_at, front_group, all_of, groups_of}
 use Rattle.bibtex_names.specs.declared.template.Group.{Group}
 
 -- the group that begins at a place

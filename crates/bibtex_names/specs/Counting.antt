@@ -1,5 +1,5 @@
 -- How BibTeX counts characters of what a group has printed.
-use Rattle.std.specs.Prelude.{ℕ, zero, suc, ◌+◌, ◌-◌, Bool, true, false, ◌&&◌, ◌==◌, nat_lt, [], ◌∷◌, length, take, drop, count_by, if◌then◌else◌}
+use Rattle.std.specs.Prelude.{ℕ, zero, suc, ◌+◌, ◌-◌, Bool, true, false, ◌&&◌, ◌==◌, nat_lt, [], ◌∷◌, take, drop, count_by, if◌then◌else◌}
 use Rattle.bib_spec.specs.Bytes.{open_brace, close_brace}
 use Rattle.bib_spec.specs.Text.{Text}
 use Rattle.bib_names.specs.Special.{is_opening}

@@ -1,5 +1,5 @@
 -- What a template prints of a name.
-use Rattle.std.specs.Prelude.{ℕ, ◌-◌, ◌||◌, not, Bool, false, ◌&&◌, ◌==◌, List, [], ◌∷◌, ◌++◌, Option, None, Some, length, take, drop, slice_index, if◌then◌else◌}
+use Rattle.std.specs.Prelude.{ℕ, ◌-◌, ◌||◌, not, Bool, false, ◌==◌, List, [], ◌∷◌, ◌++◌, Option, None, Some, length, take, drop, slice_index, if◌then◌else◌}
 use Rattle.std.specs.Option.{option_map_or}
 use Rattle.bib_spec.specs.Bytes.{space}
 use Rattle.bib_spec.specs.Text.{Text}

@@ -1,5 +1,5 @@
 -- Names and templates, and the prints that BibTeX 0.99d gives for them; each was also run by the program itself.
-use Rattle.std.specs.Prelude.{◌≡◌, [], ◌∷◌, ◌++◌, Result, Ok, Err, codes}
+use Rattle.std.specs.Prelude.{◌≡◌, ◌∷◌, ◌++◌, Result, Ok, Err, codes}
 use Rattle.bib_spec.specs.Text.{Text}
 use Rattle.bib_names.specs.declared.fault.NameFault.{NameFault}
 use Rattle.bib_names.specs.declared.fault.NameFault.TheVariants.{TooManyCommas, BadTemplate}

@@ -7,12 +7,11 @@ use Rattle.bib_spec.specs.Text.{Text}
 use Rattle.bib_names.specs.Places.{is_level, places}
 use Rattle.bib_names.specs.Label.{balances}
 use Rattle.bib_names.specs.Template.{is_no_brace}
-use Rattle.bibtex_names.specs.Letters.{is_letter, begins_group, group_len, group_inside, after_group}
+use Rattle.bibtex_names.specs.Letters.{is_letter, begins_group, group_inside, after_group}
 use Rattle.bibtex_names.specs.declared.template.Part.{Part}
 use Rattle.bibtex_names.specs.declared.template.Part.TheVariants.{First, Von, Last, Jr}
 use Rattle.bibtex_names.specs.declared.template.Form.{Form}
 use Rattle.bibtex_names.specs.declared.template.Form.TheVariants.{Initials, Words}
-use Rattle.bibtex_names.specs.declared.template.Letters.{Letters}
 use Rattle.bibtex_names.specs.declared.template.Group.{Group}
 
 -- a template: the text before the first group, and groups, each with the text after it

@@ -1,6 +1,6 @@
 //! How BibTeX counts characters of what a group has printed.
 
-ghost use Rattle.std.specs.Prelude.{◌≡◌, ◌≤◌, ◌<◌, ◌+◌, ◌^◌, ◌==◌, length, count_by};
+ghost use Rattle.std.specs.Prelude.{◌≡◌, ◌≤◌, ◌<◌, ◌+◌, ◌^◌, ◌==◌, length};
 ghost use Rattle.bibtex_names.specs.Counting.{char_len, depth_after, three};
 
 use crate::braces::Braces;

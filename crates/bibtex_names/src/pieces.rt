@@ -1,6 +1,6 @@
 //! The commas of a name, and its end.
 
-ghost use Rattle.std.specs.Prelude.{◌≡◌, ◌<◌, ◌≤◌, ◌+◌, ◌==◌, ◌||◌, [], IfSome, IfNone, true, length};
+ghost use Rattle.std.specs.Prelude.{◌≡◌, ◌<◌, ◌≤◌, ◌==◌, ◌||◌, [], IfSome, IfNone, true, length};
 ghost use Rattle.bib_names.specs.Marks.{is_dropped_at_end};
 ghost use Rattle.bib_names.specs.Places.{is_level};
 ghost use Rattle.bib_names.specs.Name.{is_comma, without_end};

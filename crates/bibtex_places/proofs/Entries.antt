@@ -1,10 +1,9 @@
 -- Keys and crossref texts that are those of entries.
-use Rattle.std.proofs.Common.{◌≡◌, ◌∙◌, ℕ, zero, suc, ◌+◌, ◌<◌, ◌≤◌, Bool, true, false, cond, List, [], ◌∷◌, ◌++◌, Option, Some, None, option_and_then, slice_get, length, take, drop, map, refl, sym, ap, subst, arith, ⊎_elim}
-use Rattle.std.specs.List.{AllZip, prefix_len, take_while}
+use Rattle.std.proofs.Common.{◌≡◌, ◌∙◌, ℕ, zero, suc, ◌+◌, ◌<◌, ◌≤◌, Bool, true, false, cond, List, [], ◌∷◌, Some, None, option_and_then, slice_get, length, refl, sym, ap, subst, arith, ⊎_elim}
+use Rattle.std.specs.List.{prefix_len}
 use Rattle.std.specs.Option.{option_copied}
 use Rattle.std.proofs.lemmas.Option.{none-some, same_Some, slice_get_cases}
-use Rattle.bib_spec.specs.Text.{Text}
-use Rattle.bib_spec.specs.Records.{EntryTexts, crossref_text, keys_of}
+use Rattle.bib_spec.specs.Records.{EntryTexts, crossref_text}
 use Rattle.bibtex_places.specs.declared.lists.EntryKey.{EntryKey}
 use Rattle.bibtex_places.specs.Lists.{IsKeyOf, AreKeysOf}
 

@@ -1,5 +1,5 @@
 -- Places as the code keeps them.
-use Rattle.std.proofs.Common.{◌≡◌, ◌∙◌, ℕ, zero, suc, ◌+◌, ◌<◌, ◌≤◌, Bool, true, false, cond, List, [], ◌∷◌, ◌++◌, Option, Some, None, is_none, is_some, option_map, option_and_then, slice_get, get_or, length, set, map, refl, sym, ap, subst, arith}
+use Rattle.std.proofs.Common.{◌≡◌, ◌∙◌, ℕ, ◌<◌, ◌≤◌, Bool, true, false, cond, List, [], Option, Some, None, is_none, is_some, option_map, option_and_then, slice_get, get_or, length, set, map, refl, sym, ap, arith}
 use Rattle.std.proofs.lemmas.Bool.{both_ways}
 use Rattle.std.proofs.lemmas.List.{length-map, map-set}
 use Rattle.std.proofs.lemmas.Option.{slice_get-map, slice_get_within, slice_get_read, same_Some}
@@ -7,12 +7,12 @@ use Rattle.bib_spec.specs.Text.{Text, folded, same}
 use Rattle.bib_spec.specs.Records.{EntryTexts}
 use Rattle.bibtex_spec.specs.Places as spec
 use Rattle.bibtex_spec.specs.Places.{held_by, taken, named_again, named}
-use Rattle.bibtex_spec.specs.Listed.{place_with, holder}
+use Rattle.bibtex_spec.specs.Listed.{place_with}
 use Rattle.bibtex_places.specs.declared.place.Place.{Place}
 use Rattle.bibtex_places.specs.KeyTables.{Numbers, FindsKeys}
 use Rattle.bibtex_places.specs.Seen.{seen}
 use Rattle.bibtex_places.specs.Steps.{if_empty, awaiting, CountsAtMost}
-use Rattle.bibtex_places.proofs.PlaceLists.{keys_in, IsFound, found_place, taken_set, named_set, keys_set, held_key, count_at}
+use Rattle.bibtex_places.proofs.PlaceLists.{keys_in, found_place, taken_set, named_set, keys_set, held_key, count_at}
 
 module _ (key : Text) (ps : List Place) (i : ℕ) (at : place_with key (map seen ps) ≡ Some i) where
   pub kept_within : i < length ps

@@ -1,12 +1,11 @@
 -- Keys in lists, compared with case folded.
-use Rattle.std.proofs.Common.{◌≡◌, ◌∙◌, ℕ, zero, suc, ◌+◌, ◌<◌, Bool, true, false, cond, not, ◌&&◌, ◌||◌, List, [], ◌∷◌, ◌++◌, Option, Some, None, is_none, is_some, option_map, option_and_then, unwrap_or, slice_get, length, set, map, filter, find, refl, sym, ap, arith, ⊎_elim}
+use Rattle.std.proofs.Common.{◌≡◌, ◌∙◌, ℕ, zero, suc, ◌+◌, ◌<◌, Bool, true, false, cond, not, ◌||◌, List, [], ◌∷◌, ◌++◌, Option, Some, None, is_some, option_map, option_and_then, unwrap_or, slice_get, length, set, filter, find, refl, sym, ap, arith}
 use Rattle.std.specs.List.{list_any}
-use Rattle.std.specs.Str.{bytes_eq}
-use Rattle.std.proofs.lemmas.Bool.{cases_Bool, cond-true, cond-false, both_ways}
+use Rattle.std.proofs.lemmas.Bool.{cond-true, cond-false, both_ways}
 use Rattle.std.proofs.lemmas.Option.{none-some, same_Some}
 use Rattle.bib_spec.specs.Text.{Text, folded, same}
 use Rattle.bib_spec.specs.Records.{EntryTexts}
-use Rattle.bib_spec.proofs.Names.{same-true, same_of, same_comm, true-same}
+use Rattle.bib_spec.proofs.Names.{same-true, same_of}
 use Rattle.bibtex_spec.specs.Places.{is_star, each_once, cited_keys, Place, added_place}
 use Rattle.bibtex_spec.specs.Listed.{first_same}
 use Rattle.bibtex_places.specs.KeyTables.{Numbers, number_of, FindsKeys, IsNumbered}
@@ -49,6 +48,18 @@ table_old table ks key finds old name = finds name ∙ at (first_same name ks) r
         other : (b : Bool) → same name key ≡ b → None ≡ cond b (Some (length ks)) None
         other false s = refl
         other true s = absurd (both_ways (is_some (number_of table key)) (ap is_some (finds key ∙ sym (first_alike name key s ks) ∙ e)) old)
+
+-- a table in which a key has got another number, and then its own again, finds what it found
+pub table_back : (old mid new : Numbers) (ks : List Text) (key : Text) (n first : ℕ) → FindsKeys old ks → number_of old key ≡ Some first → IsNumbered old key n mid → IsNumbered mid key first new
+    → FindsKeys new (ks ++ key ∷ [])
+table_back old mid new ks key n first finds was changed back = table_old new ks key same_found (ap is_some (same_found key ∙ sym (finds key) ∙ was))
+  where
+    same_found : FindsKeys new ks
+    same_found name = back name ∙ at (same name key) refl
+      where
+        at : (b : Bool) → same name key ≡ b → cond b (Some first) (number_of mid name) ≡ first_same name ks
+        at true e = sym was ∙ finds key ∙ sym (first_alike name key e ks)
+        at false e = changed name ∙ cond-false (same name key) (Some n) (number_of old name) e ∙ finds name
 
 -- and otherwise it finds the new key once that has a number
 pub table_new : (old new : Numbers) (ks : List Text) (key : Text) (n : ℕ) → FindsKeys old ks → is_some (number_of old key) ≡ false → IsNumbered old key n new → n ≡ length ks

@@ -1,9 +1,9 @@
 -- The records of listed entries are those of the definition.
-use Rattle.std.proofs.Common.{◌≡◌, ◌∙◌, ℕ, zero, suc, ◌+◌, ◌<◌, ◌≤◌, Bool, true, false, cond, List, [], ◌∷◌, ◌++◌, Option, Some, None, is_none, option_map, option_and_then, slice_get, length, map, filter_map, refl, sym, ap, subst, arith, ⊎_elim}
+use Rattle.std.proofs.Common.{◌≡◌, ◌∙◌, ℕ, suc, ◌+◌, ◌<◌, ◌≤◌, Bool, true, false, cond, List, [], ◌∷◌, ◌++◌, Option, Some, None, option_map, option_and_then, slice_get, length, map, filter_map, refl, sym, ap, subst, arith, ⊎_elim}
 use Rattle.std.specs.List.{list_any, enumerate_from, cons_option, AllByRecursion}
 use Rattle.std.specs.Option.{option_map_or}
 use Rattle.std.proofs.lemmas.Option.{none-some, same_Some, slice_get_cases}
-use Rattle.bib_spec.specs.Text.{Text, folded, same}
+use Rattle.bib_spec.specs.Text.{Text, folded}
 use Rattle.bib_spec.specs.Records.{EntryTexts, crossref_text, own_fields, with_inherited}
 use Rattle.bibtex_spec.specs.Places.{cited_keys, are_all_cited, keys_before_star, Place, has_key, cited_place, is_awaited, held_by, taken, named_again, named, read_entry, read_entries, added_place, read_any, read_all, places_of}
 use Rattle.bibtex_spec.specs.Listed.{is_enough, ListedRecord, listed_record, record_at, listed_as_bibtex, shown_crossref, givers}

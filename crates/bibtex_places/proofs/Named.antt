@@ -1,8 +1,7 @@
 -- The place that a crossref text names, case by case.
-use Rattle.std.proofs.Common.{◌≡◌, ◌∙◌, ℕ, Bool, true, false, cond, not, ◌&&◌, List, Option, Some, None, is_none, is_some, option_and_then, refl, sym, ap}
+use Rattle.std.proofs.Common.{◌≡◌, ◌∙◌, ℕ, Bool, true, false, cond, not, ◌&&◌, List, Option, Some, None, is_some, option_and_then, refl, sym, ap}
 use Rattle.std.specs.List.{list_any}
-use Rattle.std.proofs.lemmas.Bool.{both_ways}
-use Rattle.bib_spec.specs.Text.{Text, folded, same}
+use Rattle.bib_spec.specs.Text.{Text, same}
 use Rattle.bib_spec.specs.Records.{EntryTexts, keys_of}
 use Rattle.bibtex_spec.specs.Places.{Place, are_all_cited, cited_keys}
 use Rattle.bibtex_spec.specs.Listed.{first_same, place_with, is_missing, within, place_named}

@@ -5,7 +5,7 @@ use Rattle.std.proofs.lemmas.Option.{slice_get-map, slice_get_read}
 use Rattle.bib_spec.specs.Text.{Text}
 use Rattle.bib_spec.specs.Records.{EntryTexts, crossref_text}
 use Rattle.bibtex_spec.specs.Places.{Place}
-use Rattle.bibtex_spec.specs.Listed.{place_named, parent_place}
+use Rattle.bibtex_spec.specs.Listed.{place_named}
 use Rattle.bibtex_places.specs.declared.place.Place as kept
 use Rattle.bibtex_places.specs.Seen.{seen}
 use Rattle.bibtex_places.specs.Parents.{parent_in, AreParents}

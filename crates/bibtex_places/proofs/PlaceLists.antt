@@ -1,13 +1,12 @@
 -- Places that are found by their keys, taken and named.
-use Rattle.std.proofs.Common.{◌≡◌, ◌∙◌, ℕ, zero, suc, ◌+◌, ◌<◌, ◌≤◌, Bool, true, false, cond, not, ◌&&◌, ◌||◌, List, [], ◌∷◌, ◌++◌, Option, Some, None, is_none, is_some, option_map, option_and_then, slice_get, length, set, map, find, refl, sym, ap, subst, arith}
-use Rattle.std.specs.List.{list_any, AllByRecursion}
+use Rattle.std.proofs.Common.{◌≡◌, ◌∙◌, ℕ, zero, suc, ◌+◌, ◌≤◌, Bool, true, false, cond, ◌||◌, List, [], ◌∷◌, ◌++◌, Option, Some, None, is_none, is_some, option_map, option_and_then, slice_get, set, map, find, refl, sym, ap, subst, arith}
+use Rattle.std.specs.List.{list_any}
 use Rattle.std.specs.Option.{option_map_or}
-use Rattle.std.proofs.lemmas.Bool.{both_ways, true≢false}
 use Rattle.std.proofs.lemmas.Option.{none-some, same_Some}
 use Rattle.bib_spec.specs.Text.{Text, folded, same}
 use Rattle.bib_spec.specs.Records.{EntryTexts, crossref_text}
 use Rattle.bib_spec.proofs.Names.{same-true}
-use Rattle.bibtex_spec.specs.Places.{Place, has_key, named_place, is_awaited, held_by, taken, named_again, named, named_in, read_entry}
+use Rattle.bibtex_spec.specs.Places.{Place, has_key, named_place, is_awaited, held_by, taken, named_again, named, read_entry}
 use Rattle.bibtex_spec.specs.Listed.{first_same, place_with, holder}
 use Rattle.bibtex_places.specs.Steps.{if_empty, awaiting, CountsAtMost}
 use Rattle.bibtex_places.proofs.Keys.{any_first, first_set}

@@ -1,9 +1,8 @@
 -- Places as entries are read, one after another.
-use Rattle.std.proofs.Common.{◌≡◌, ◌∙◌, ℕ, zero, suc, ◌+◌, ◌<◌, ◌≤◌, Bool, true, false, cond, List, [], ◌∷◌, ◌++◌, Option, Some, None, is_none, is_some, option_and_then, unwrap_or, slice_get, length, take, drop, map, find, refl, sym, ap, subst, arith}
-use Rattle.std.specs.List.{list_any, AllByRecursion}
-use Rattle.std.proofs.lemmas.List.{drop_all, take_all, map_push, length-take-le, length-map}
+use Rattle.std.proofs.Common.{◌≡◌, ◌∙◌, ℕ, zero, suc, ◌+◌, ◌≤◌, List, [], ◌∷◌, ◌++◌, Some, slice_get, length, take, drop, map, sym, ap, subst, arith}
+use Rattle.std.proofs.lemmas.List.{drop_all, map_push, length-take-le, length-map}
 use Rattle.std.proofs.lemmas.Option.{none-some, same_Some, slice_get_within}
-use Rattle.bib_spec.specs.Text.{Text, folded, same}
+use Rattle.bib_spec.specs.Text.{Text}
 use Rattle.bib_spec.specs.Records.{EntryTexts, keys_of}
 use Rattle.bibtex_spec.specs.Places.{Place, cited_place, cited_keys, read_entry, read_entries, read_any, read_all}
 use Rattle.bibtex_places.specs.Steps.{with_cited, CountsAtMost}

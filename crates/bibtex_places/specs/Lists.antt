@@ -1,11 +1,11 @@
 -- Lists as the code gives them.
-use Rattle.std.specs.Prelude.{ℕ, ◌≡◌, Bool, not, ◌&&◌, nat_lt, List, [], Option, Some, None, is_none, length, if◌then◌else◌, filter, filter_map, map, option_map, option_and_then, slice_get, ◌∷◌}
+use Rattle.std.specs.Prelude.{ℕ, ◌≡◌, Bool, not, ◌&&◌, nat_lt, List, Option, None, length, if◌then◌else◌, filter, filter_map, map, option_map, slice_get}
 use Rattle.std.specs.List.{list_any, enumerate_from, AllZip}
-use Rattle.std.specs.Option.{option_copied, option_map_or}
-use Rattle.bib_spec.specs.Text.{Text, folded, same}
+use Rattle.std.specs.Option.{option_copied}
+use Rattle.bib_spec.specs.Text.{Text, folded}
 use Rattle.bib_spec.specs.Records.{EntryTexts, crossref_text, own_fields, with_inherited}
 use Rattle.bibtex_spec.specs.Places.{Place, is_star, are_all_cited, places_of}
-use Rattle.bibtex_spec.specs.Listed.{is_missing, parent_place, up, is_enough, is_shown, shown_crossref, givers, ListedRecord, holder}
+use Rattle.bibtex_spec.specs.Listed.{is_missing, parent_place, up, is_enough, is_shown, shown_crossref, givers, ListedRecord}
 use Rattle.bibtex_places.specs.declared.lists.EntryKey.{EntryKey}
 use Rattle.bibtex_places.specs.declared.lists.BibtexEntry.{BibtexEntry}
 

@@ -1,5 +1,5 @@
 -- One step of reading keys and entries.
-use Rattle.std.specs.Prelude.{ℕ, ◌≡◌, ◌≤◌, Bool, ◌||◌, List, [], ◌∷◌, ◌++◌, Option, Some, None, is_none, is_some, unwrap_or, if◌then◌else◌, find, option_and_then}
+use Rattle.std.specs.Prelude.{ℕ, ◌≤◌, ◌||◌, List, [], ◌∷◌, ◌++◌, Option, Some, None, is_none, unwrap_or, if◌then◌else◌, find, option_and_then}
 use Rattle.std.specs.List.{list_any, AllByRecursion}
 use Rattle.bib_spec.specs.Text.{Text, same}
 use Rattle.bibtex_spec.specs.Places.{is_star, Place}

@@ -1,6 +1,6 @@
 //! Cited keys.
 
-ghost use Rattle.std.specs.Prelude.{◌≡◌, List, map, take, not, IfOk};
+ghost use Rattle.std.specs.Prelude.{◌≡◌, List, not, IfOk};
 ghost use Rattle.std.specs.List.{prefix_len, take_while};
 ghost use Rattle.bib_spec.specs.Text.{Text as Bytes};
 ghost use Rattle.bibtex_spec.specs.Places.{is_star, are_all_cited};
@@ -120,7 +120,11 @@ impl Cited {
     pub fn find(&self, text: &[u8]) -> Result<Option<usize>, AllocError>
         ensures { IfOk result (λ n. n ≡ first_same text.now self.now) }
     {
-        self.table.get(text)
+        if self.keys.is_empty() {
+            return Ok(None);
+        }
+        let found = self.table.get(text)?;
+        Ok(found)
     }
 
     /// How the key is spelled: as it is cited, or else as `other`.

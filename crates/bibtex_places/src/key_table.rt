@@ -94,10 +94,8 @@ impl Model for KeyTable {
 }
 
 impl KeyTable {
-    ghost use Rattle.std.specs.Prelude.{◌≡◌, ◌≤◌, List, [], ◌∷◌, ◌++◌, length, IfOk, OnOk};
-    ghost use Rattle.bib_spec.specs.Bytes.{name_limit};
+    ghost use Rattle.std.specs.Prelude.{◌≡◌, List, [], ◌∷◌, ◌++◌, length, IfOk, OnOk};
     ghost use Rattle.bib_spec.specs.Text.{Text as Bytes, folded};
-    ghost use Rattle.folded_map.specs.FoldedMap.{value_at, IsWith};
     ghost use Rattle.bibtex_places.specs.KeyTables.{number_of, FindsKeys, IsNumbered};
 
     /// The table of no keys. It takes no memory.
@@ -122,27 +120,28 @@ impl KeyTable {
         Ok(self.long.get(&folded).copied())
     }
 
-    /// Gives the key this number.
-    fn set(&mut self, key: &[u8], n: usize) -> Result<(), AllocError>
-        ensures { OnOk result (IsNumbered self.old key.now n self.new) }
+    /// Gives the key this number, and returns its former one.
+    fn set(&mut self, key: &[u8], n: usize) -> Result<Option<usize>, AllocError>
+        ensures former { IfOk result (λ former. former ≡ number_of self.old key.now) }
+        ensures numbered { OnOk result (IsNumbered self.old key.now n self.new) }
     {
         if key.len() <= NAME_LIMIT {
-            self.short.insert(key, n)?;
-            return Ok(());
+            let former = self.short.insert(key, n)?;
+            return Ok(former);
         }
         let folded = FoldedKey::of(self.alloc, key)?;
-        self.long.insert(folded, n)?;
-        Ok(())
+        let former = self.long.insert(folded, n)?;
+        Ok(former)
     }
 
     /// Adds the key after all others, of which there are `n`. It gets a number only if none of them is the same.
     pub fn add(&mut self, key: &[u8], n: usize) -> Result<(), AllocError>
         ensures { OnOk result ((keys : List Bytes) → FindsKeys self.old keys → n ≡ length keys → FindsKeys self.new (keys ++ key.now ∷ [])) }
     {
-        if self.get(key)?.is_some() {
-            return Ok(());
+        // few keys of a file are repeated, so that most need no look-up
+        if let Some(first) = self.set(key, n)? {
+            self.set(key, first)?;
         }
-        self.set(key, n)?;
         Ok(())
     }
 }

@@ -1,16 +1,15 @@
 //! The list for some keys.
 
-ghost use Rattle.std.specs.Prelude.{◌≡◌, false, true, List, Option, Some, None, if◌then◌else◌, map, take, filter_map, option_map, option_and_then, slice_get, IfOk, IfErr, OnOk};
-ghost use Rattle.std.specs.List.{enumerate_from};
+ghost use Rattle.std.specs.Prelude.{◌≡◌, false, true, List, Some, None, if◌then◌else◌, map, option_map, option_and_then, slice_get, IfOk, IfErr, OnOk};
 ghost use Rattle.std.specs.Option.{option_copied};
 ghost use Rattle.bib_spec.specs.Text.{Text as Bytes};
 ghost use Rattle.bib_spec.specs.Records.{EntryTexts, keys_of};
-ghost use Rattle.bibtex_spec.specs.Places.{Place as KeyPlace, cited_keys, are_all_cited, places_of, read_entries, read_all};
+ghost use Rattle.bibtex_spec.specs.Places.{cited_keys, are_all_cited, places_of, read_entries, read_all};
 ghost use Rattle.bibtex_spec.specs.Listed.{listed_as_bibtex, crossref_spelling, parent_place};
 ghost use Rattle.bibtex_places.specs.KeyTables.{FindsKeys};
 ghost use Rattle.bibtex_places.specs.Seen.{seen};
 ghost use Rattle.bibtex_places.specs.Steps.{CountsAtMost};
-ghost use Rattle.bibtex_places.specs.Parents.{AreParents, listed_place};
+ghost use Rattle.bibtex_places.specs.Parents.{listed_place};
 ghost use Rattle.bibtex_places.specs.Lists.{AreKeysOf, listed_entry, is_deep, entry_at, listed_entries, record_of_listed, is_deep_at, is_too_deep, is_unknown, unknown_places};
 ghost use Rattle.bibtex_places.specs.Sources.{AreSources};
 ghost use Rattle.bibtex_places.specs.declared.fault.BibtexFault.TheVariants.{TooDeep};

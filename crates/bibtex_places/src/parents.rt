@@ -1,12 +1,12 @@
 //! Parents of places, and what they give.
 
-ghost use Rattle.std.specs.Prelude.{◌≡◌, ◌++◌, false, true, List, [], Option, Some, map, filter_map, option_and_then, slice_get, IfOk, IfErr, OnOk};
+ghost use Rattle.std.specs.Prelude.{◌≡◌, ◌++◌, false, true, List, [], Some, map, filter_map, option_and_then, slice_get, IfOk, IfErr, OnOk};
 ghost use Rattle.std.specs.List.{cons_option};
 ghost use Rattle.std.specs.Option.{option_copied, option_map};
 ghost use Rattle.bib_spec.specs.Text.{Text as Bytes};
 ghost use Rattle.bib_spec.specs.Records.{EntryTexts, crossref_text, keys_of};
 ghost use Rattle.bibtex_spec.specs.Places.{cited_keys, are_all_cited};
-ghost use Rattle.bibtex_spec.specs.Listed.{holder, within, place_named, parent_place, up, is_shown};
+ghost use Rattle.bibtex_spec.specs.Listed.{holder, within, place_named, up, is_shown};
 ghost use Rattle.bibtex_places.specs.KeyTables.{FindsKeys};
 ghost use Rattle.bibtex_places.specs.Seen.{seen};
 ghost use Rattle.bibtex_places.specs.Lists.{AreKeysOf, is_deep};

@@ -1,6 +1,6 @@
 //! The at-signs of one item.
 
-ghost use Rattle.std.specs.Prelude.{◌≡◌, ◌+◌, ◌++◌, ◌<◌, ◌≤◌, ◌^◌, List, ℕ, ⊤, true, length, drop, MatchOption};
+ghost use Rattle.std.specs.Prelude.{◌≡◌, ◌+◌, ◌++◌, ◌<◌, ◌^◌, List, ⊤, true, length, drop, MatchOption};
 ghost use Rattle.bib_spec.specs.Bytes.{name_limit};
 ghost use Rattle.bib_spec.specs.Text.{Text};
 ghost use Rattle.bib_spec.specs.Tree.{Tree, is_comment, tree_bytes};

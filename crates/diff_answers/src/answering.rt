@@ -1,9 +1,9 @@
 //! What `diff` answers to two files.
 
-ghost use Rattle.std.specs.Prelude.{◌≡◌, ◌≢◌, [], IfOk, IfErr};
+ghost use Rattle.std.specs.Prelude.{◌≡◌, ◌≢◌, [], IfOk};
 ghost use Rattle.bib_spec.specs.Text.{Text as FileText};
 ghost use Rattle.diff_spec.specs.Agreement.{FilesAgree};
-ghost use Rattle.bib_diff.specs.Leading.{Leads, RefusesDiff};
+ghost use Rattle.bib_diff.specs.Leading.{Leads};
 ghost use Rattle.bib_diff.specs.declared.fault.DiffFault.TheVariants.{Memory};
 ghost use Rattle.bib_answers.specs.Outcome.{answer_of};
 ghost use Rattle.diff_answers.specs.Answers.{IsDiffAnswer, diff_line};

@@ -3,7 +3,7 @@
 use bib_diff::{DiffFault, difference};
 use bib_text::Text;
 use script_text::script_text;
-use std::alloc::{AllocError, Global};
+use std::alloc::Global;
 use std::test::Fail;
 
 /// What is to come out: a script, or no script with the key of the entry at fault, if it has one.

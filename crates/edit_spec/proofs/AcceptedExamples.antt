@@ -1,9 +1,10 @@
 -- The edits of the examples are accepted: no reason refuses them.
-use Rattle.edit_spec.proofs.Words.{◌≡◌, ℕ, zero, suc, ◌≤◌, List, ◌∷◌, Some, All, codes, ⊎_elim, refl, sym, arith, not-suc-le-zero, le_of_suc-le-suc, AllPass, is_ascii_digit, false≢true, none-some, name_limit, is_space, is_name_byte, is_new_key_byte, is_name_within, is_new_key, opened_before}
+use Rattle.edit_spec.proofs.Words.{◌≡◌, ℕ, zero, suc, ◌≤◌, List, ◌∷◌, None, Some, All, codes, ⊎_elim, refl, sym, arith, not-suc-le-zero, le_of_suc-le-suc, AllPass, is_ascii_digit, false≢true, none-some, name_limit, is_space, is_name_byte, is_new_key_byte, is_name_within, is_new_key, opened_before}
 use Rattle.edit_spec.proofs.Words.{closed_before, begins_command, IsClean, IsCleanTrail, Digits, is_comment, IsValue, Item, months, field_text, SetField, DropField, AddEntry, RemoveEntry, MoveEntry, RenameKey, RenameMacro, InlineMacro, IntroduceMacro, RegenerateKeys, AddMany, DefineMacro, SetMacro, BadKey, BadName}
 use Rattle.edit_spec.proofs.Words.{BadValue, BadPosition, NotFound, Ambiguous, KeyInUse, NameInUse, Referred, WouldMerge, FileTooLong, TextTooLong, in_braces, remove_entry, inline_macro, IsAccepted, entries_of, parent, one_field, author_year}
 use Rattle.std.proofs.Common.{[]}
-use Rattle.edit_spec.specs.Examples.{only, waiting, z, two_lines, named_by_macro, overridden_month, quoting, same_text_twice, swapped, family, with_remark}
+use Rattle.edit_spec.specs.Edits.{SetType, UndefineMacro, RenameField, ChangeEntry, ChangeDefinition, SetsType, SetsValue, undefine_macro}
+use Rattle.edit_spec.specs.Examples.{only, waiting, z, two_lines, named_by_macro, overridden_month, quoting, same_text_twice, swapped, family, with_remark, undefined_use, inlined_twice}
 
 -- an edit without values has no bad one
 no_values : All (IsValue name_limit) []
@@ -53,6 +54,10 @@ quoting_clean (suc k) d lt = absurd (not-suc-le-zero (le_of_suc-le-suc lt))
 lines_clean : AreClean (remove_entry (codes "a") two_lines).items
 lines_clean zero d lt = record { clean = line_clean; ends_name = λ e. absurd (false≢true e) }
 lines_clean (suc k) d lt = absurd (not-suc-le-zero (le_of_suc-le-suc lt))
+
+undefined_clean : AreClean (undefine_macro (codes "m") undefined_use).items
+undefined_clean zero d lt = record { clean = nothing_clean; ends_name = λ e. absurd (false≢true e) }
+undefined_clean (suc k) d lt = absurd (not-suc-le-zero (le_of_suc-le-suc lt))
 
 -- the crossref that waits has no target
 no_parent : (n m : ℕ) → parent (entries_of waiting) n ≡ Some m → ⊥
@@ -270,3 +275,78 @@ is_macro_set Referred h = absurd h
 is_macro_set WouldMerge h = absurd h
 is_macro_set FileTooLong h = omega (arith, h)
 is_macro_set TextTooLong h = false≢true h
+
+pub is_type_set : IsAccepted author_year one_field (SetType (codes "a") (codes "book"))
+unfolding months field_text is_space is_name_byte is_new_key_byte is_name_within is_new_key
+is_type_set BadKey h = false≢true (sym h)
+is_type_set BadName h = false≢true (sym h)
+is_type_set BadValue h = h no_values
+is_type_set BadPosition h = absurd h
+is_type_set NotFound h = omega (arith, h)
+is_type_set Ambiguous h = omega (arith, h)
+is_type_set KeyInUse h = absurd h
+is_type_set NameInUse h = absurd h
+is_type_set Referred h = absurd h
+is_type_set WouldMerge h = absurd h
+is_type_set FileTooLong h = omega (arith, h)
+is_type_set TextTooLong h = false≢true h
+
+pub is_macro_undefined : IsAccepted author_year undefined_use (UndefineMacro (codes "m"))
+unfolding months field_text is_space is_name_byte is_new_key_byte is_name_within is_new_key
+is_macro_undefined BadKey h = false≢true (sym h)
+is_macro_undefined BadName h = false≢true (sym h)
+is_macro_undefined BadValue h = h no_values
+is_macro_undefined BadPosition h = absurd h
+is_macro_undefined NotFound h = omega (arith, h)
+is_macro_undefined Ambiguous h = omega (arith, h)
+is_macro_undefined KeyInUse h = absurd h
+is_macro_undefined NameInUse h = absurd h
+is_macro_undefined Referred h = false≢true h
+is_macro_undefined WouldMerge h = h (record { front = nothing_clean; trails = undefined_clean })
+is_macro_undefined FileTooLong h = omega (arith, h)
+is_macro_undefined TextTooLong h = false≢true h
+
+pub is_field_renamed : IsAccepted author_year one_field (RenameField (codes "t") (codes "u") None)
+unfolding months field_text is_space is_name_byte is_new_key_byte is_name_within is_new_key
+is_field_renamed BadKey h = false≢true (sym h)
+is_field_renamed BadName h = false≢true (sym h)
+is_field_renamed BadValue h = h no_values
+is_field_renamed BadPosition h = absurd h
+is_field_renamed NotFound h = false≢true (sym h)
+is_field_renamed Ambiguous h = false≢true h
+is_field_renamed KeyInUse h = absurd h
+is_field_renamed NameInUse h = absurd h
+is_field_renamed Referred h = absurd h
+is_field_renamed WouldMerge h = absurd h
+is_field_renamed FileTooLong h = omega (arith, h)
+is_field_renamed TextTooLong h = false≢true h
+
+pub is_one_entry_changed : IsAccepted author_year one_field (ChangeEntry (record { name = codes "a"; number = Some 0 }) (SetsType (codes "book")))
+unfolding months field_text is_space is_name_byte is_new_key_byte is_name_within is_new_key
+is_one_entry_changed BadKey h = false≢true (sym h)
+is_one_entry_changed BadName h = false≢true (sym h)
+is_one_entry_changed BadValue h = h no_values
+is_one_entry_changed BadPosition h = absurd h
+is_one_entry_changed NotFound h = false≢true h
+is_one_entry_changed Ambiguous h = false≢true h
+is_one_entry_changed KeyInUse h = absurd h
+is_one_entry_changed NameInUse h = absurd h
+is_one_entry_changed Referred h = absurd h
+is_one_entry_changed WouldMerge h = absurd h
+is_one_entry_changed FileTooLong h = omega (arith, h)
+is_one_entry_changed TextTooLong h = false≢true h
+
+pub is_one_definition_changed : IsAccepted author_year inlined_twice (ChangeDefinition (codes "m") 1 (SetsValue (only (Digits (codes "2")))))
+unfolding months field_text is_space is_name_byte is_new_key_byte is_name_within is_new_key
+is_one_definition_changed BadKey h = false≢true (sym h)
+is_one_definition_changed BadName h = false≢true (sym h)
+is_one_definition_changed BadValue h = h one_digit
+is_one_definition_changed BadPosition h = absurd h
+is_one_definition_changed NotFound h = omega (arith, h)
+is_one_definition_changed Ambiguous h = absurd h
+is_one_definition_changed KeyInUse h = absurd h
+is_one_definition_changed NameInUse h = absurd h
+is_one_definition_changed Referred h = absurd h
+is_one_definition_changed WouldMerge h = absurd h
+is_one_definition_changed FileTooLong h = omega (arith, h)
+is_one_definition_changed TextTooLong h = false≢true h

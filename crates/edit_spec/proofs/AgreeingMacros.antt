@@ -1,5 +1,5 @@
 -- Two tables of macros that agree on all names except some: items that use none of these say the same under both.
-use Rattle.edit_spec.proofs.Words.{◌≡◌, ℕ, Bool, true, false, cond, ◌||◌, List, ◌∷◌, ◌++◌, Option, Some, None, unwrap_or, refl, sym, ◌∙◌, ap, ap₂, map, flat_map, list_any, bytes_eq, ⊎_elim, cases_Bool, cond-true, cond-false, or_parts, or_from, Text, folded, same, Part, Braced, Quoted, Digits, Macro, Value, Row, Definition, Tree}
+use Rattle.edit_spec.proofs.Words.{◌≡◌, Bool, false, cond, List, ◌∷◌, ◌++◌, Option, Some, None, unwrap_or, refl, sym, ◌∙◌, ap, ap₂, map, flat_map, list_any, bytes_eq, ⊎_elim, cases_Bool, cond-true, cond-false, or_parts, or_from, Text, folded, same, Part, Braced, Quoted, Digits, Macro, Value, Row, Definition, Tree}
 use Rattle.edit_spec.proofs.Words.{CommentTree, DefinitionTree, PreambleTree, EntryTree, Item, Macros, updated, parts_of, part_text, raw_text, macros_in, macros_after, Field, EntryTexts, field_of, entry_in, preamble_in, any_part, same-is}
 use Rattle.std.proofs.Common.{[]}
 use Rattle.bib_spec.specs.Texts.{values_of}

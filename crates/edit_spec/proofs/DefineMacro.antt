@@ -1,6 +1,6 @@
 -- DefineMacro: the new definition is one of the grammar, and if nothing uses the macro, all says what it said.
-use Rattle.edit_spec.proofs.Words.{◌≡◌, ◌≤◌, ◌||◌, ℕ, zero, suc, true, false, List, ◌∷◌, ◌++◌, Some, None, refl, sym, ◌∙◌, ap, ap₂, length, arith, le_of_suc-le-suc, bytes_eq, cond-false, false≢true, or_parts, or_from, and_parts, All, All-cons, All-head, All-nil, All-tail, name_limit, Text, folded, same, is_name}
-use Rattle.edit_spec.proofs.Words.{Part, Braced, Quoted, Digits, Macro, Value, Definition, Tree, CommentTree, DefinitionTree, PreambleTree, EntryTree, IsValue, Item, Reading, bytes_of, IsItem, Reads, Macros, months, raw_text, macros_in, macros_after, macros_at, gathered, entry_in, preamble_in, entries_of, preambles_of}
+use Rattle.edit_spec.proofs.Words.{◌≡◌, ◌≤◌, ℕ, zero, suc, true, false, List, ◌∷◌, ◌++◌, Some, refl, sym, ◌∙◌, ap, ap₂, length, arith, le_of_suc-le-suc, bytes_eq, cond-false, false≢true, or_parts, or_from, and_parts, All-cons, All-head, All-tail, name_limit, Text, folded, same, is_name}
+use Rattle.edit_spec.proofs.Words.{Part, Value, Definition, Tree, CommentTree, DefinitionTree, PreambleTree, EntryTree, IsValue, Item, Reading, bytes_of, IsItem, Reads, Macros, months, raw_text, macros_in, macros_after, macros_at, gathered, entry_in, preamble_in}
 use Rattle.edit_spec.proofs.Words.{Record, uses, any_part, in_line, definition_as, same-is, DefineMacro, IsAccepted}
 use Rattle.std.proofs.Common.{[]}
 use Rattle.bib_spec.specs.Tree.{IsDefinition}
@@ -10,7 +10,7 @@ use Rattle.edit_spec.specs.Laws.{is_use_of, define_macro_keeps}
 use Rattle.edit_spec.proofs.Unrefuted.{given_names-are, given_values-are}
 use Rattle.edit_spec.proofs.EditedItems.{AreItems, made_reads, in_line-is}
 use Rattle.edit_spec.proofs.ChangedParts.{new_definition}
-use Rattle.edit_spec.proofs.AgreeingMacros.{AgreeBut, never, none_too, unused_too, defined-agree, entry-alike, preamble-alike, after-alike}
+use Rattle.edit_spec.proofs.AgreeingMacros.{AgreeBut, none_too, unused_too, entry-alike, preamble-alike, after-alike}
 use Rattle.edit_spec.proofs.MacroLaws.{keeps_entries, keeps_citations}
 
 -- ---- what is made reads

@@ -1,7 +1,7 @@
 -- What a change of one entry among several with its key keeps.
 use Rattle.edit_spec.proofs.Words.{◌≡◌, ◌≢◌, ◌==◌, ◌<◌, ◌≤◌, ℕ, zero, suc, true, false, not, List, ◌∷◌, ◌++◌, Option, Some, None, unwrap_or, option_map, option_and_then, slice_get, insert, length, take, ⊎_elim, refl, sym, ◌∙◌, ap, ap₂, subst, arith, option_map_or, list_any, suc-le-suc, cases_Bool, cond-true, cond-false, cond_some}
 use Rattle.edit_spec.proofs.Words.{false_from_ne_true, false≢true, both_ways, and_parts, and_from, or_parts, not-true, none-some, same_Some, Text, folded, same, is_new_key, Entry, Tree, CommentTree, DefinitionTree, PreambleTree, EntryTree, Item, Reading, is_empty, field_text, Macros, months, macros_after, gathered, EntryTexts, texts_of, entry_in, preamble_in}
-use Rattle.edit_spec.proofs.Words.{entries_of, keys_of, crossref, crossref_text, first_named, is_named, entry_named, target_of, target, parent, expanded, listed, unknown, dangling_texts, KeyInUse, Referred, is_entry, with_keys, key_for, number_with_one_more, IsFirst, first_is, none_at, option_cases, same_comm, dangling_among, keys_with, key_before, same-true, true-same}
+use Rattle.edit_spec.proofs.Words.{entries_of, keys_of, crossref, crossref_text, first_named, is_named, entry_named, target_of, parent, expanded, listed, unknown, dangling_texts, KeyInUse, Referred, is_entry, with_keys, key_for, number_with_one_more, IsFirst, first_is, none_at, option_cases, same_comm, dangling_among, keys_with, key_before, same-true, true-same}
 use Rattle.std.proofs.Common.{[], ◌||◌, if◌then◌else◌, eqb-true, ne_eqb, zero-le}
 use Rattle.std.specs.Prelude.{nat_lt}
 use Rattle.std.proofs.lemmas.Bool.{ltb-true, ltb-false, eqb-false}

@@ -90,7 +90,8 @@ module _ (key_base : Record → Text) (fit : IsKeyBase key_base) (depth : ℕ) (
       let is = base_is key_base depth entries 0 entries n from.0 from.2 in
       (is.0, from.1, from.3 ∙ ap (λ b. candidate b from.1) is.1)
 
-  length-new : length (new_keys key_base depth entries) ≡ length entries
+  -- there is a made key for each entry
+  pub length-new : length (new_keys key_base depth entries) ≡ length entries
   length-new = length-made (dangling_texts entries) (bases key_base depth entries) ∙ length-bases key_base depth entries 0 entries
 
   -- every entry gets its made key

@@ -1,15 +1,15 @@
 -- SetMacro: a definition with another value is one, and all entries that use neither the macro nor a dependent one say what they said.
-use Rattle.edit_spec.proofs.Words.{◌≡◌, ◌||◌, ◌==◌, ℕ, zero, suc, ◌<◌, Bool, true, false, List, ◌∷◌, ◌++◌, Option, Some, None, unwrap_or, option_map, option_and_then, slice_get, find, refl, sym, ◌∙◌, ap, ap₂, subst, map, flat_map, list_any, option_map_or, count_by, length, append_assoc, append-nil, arith, cond-true, cond-false, cond_both, false≢true, both_ways}
-use Rattle.edit_spec.proofs.Words.{or_parts, or_from, and_parts, option_cases, ⊎_elim, cases_Bool, All-cons, All-head, All-tail, name_limit, Text, folded, same, is_name, Value, Definition, Tree, CommentTree, DefinitionTree, PreambleTree, EntryTree, value_bytes, close_byte, tree_bytes, is_comment, IsValue, IsTree, Item, item_bytes, Reading, bytes_of, IsItem, Reads, Macros, months}
-use Rattle.edit_spec.proofs.Words.{raw_text, macros_in, macros_after, macros_at, gathered, EntryTexts, Record, RecordField, entry_in, preamble_in, preambles_of, entries_of, keys_of, first_named, crossref_text, target, other_than, parent, unvisited, ancestors, ancestors_from, fields_at, own_fields, missing, with_inherited, record_of, expanded, any_part, defines, from_first, with_first_tree}
-use Rattle.edit_spec.proofs.Words.{same_comm, count-no, SetMacro, NotFound, IsAccepted}
+use Rattle.edit_spec.proofs.Words.{◌≡◌, ℕ, zero, suc, Bool, true, false, List, ◌∷◌, ◌++◌, Option, Some, None, unwrap_or, option_map, option_and_then, slice_get, find, refl, sym, ◌∙◌, ap, ap₂, flat_map, list_any, option_map_or, count_by, append_assoc, cond-true, cond-false, cond_both, false≢true}
+use Rattle.edit_spec.proofs.Words.{or_parts, ⊎_elim, cases_Bool, All-cons, All-head, All-tail, name_limit, Text, folded, same, Value, Definition, Tree, CommentTree, DefinitionTree, PreambleTree, EntryTree, value_bytes, close_byte, tree_bytes, is_comment, IsValue, IsTree, Item, item_bytes, Reading, bytes_of, IsItem, Reads, Macros, months}
+use Rattle.edit_spec.proofs.Words.{raw_text, macros_in, macros_after, macros_at, gathered, EntryTexts, Record, RecordField, entry_in, preamble_in, entries_of, keys_of, first_named, crossref_text, other_than, parent, unvisited, ancestors, ancestors_from, fields_at, own_fields, missing, with_inherited, record_of, expanded, any_part, defines, from_first, with_first_tree}
+use Rattle.edit_spec.proofs.Words.{count-no, SetMacro, NotFound, IsAccepted}
 use Rattle.std.proofs.Common.{[]}
 use Rattle.bib_spec.proofs.Names.{same_of, same-true}
 use Rattle.bib_spec.specs.Bytes.{equals_sign}
 use Rattle.bib_spec.specs.Texts.{bytes_before_value}
 use Rattle.bib_spec.specs.Tree.{opening_bytes}
 use Rattle.edit_spec.specs.Edits.{definition_to, set_macro}
-use Rattle.edit_spec.specs.Laws.{is_use_of, with_dependent, dependents, entry_uses, is_user, preamble_uses, KeepsAllButUsers, ReplacesValue, set_macro_keeps, set_macro_replaces_a_value}
+use Rattle.edit_spec.specs.Laws.{is_use_of, with_dependent, dependents, entry_uses, is_user, preamble_uses, ReplacesValue, set_macro_keeps, set_macro_replaces_a_value}
 use Rattle.edit_spec.proofs.Unrefuted.{given_values-are}
 use Rattle.edit_spec.proofs.EditedItems.{made_reads, item_as, from_first-are}
 use Rattle.edit_spec.proofs.AgreeingMacros.{IsNone, AgreeBut, none_of_with, none_of_all, unused_of_all, defined-agree, entry-alike, preamble-alike, after-apart}

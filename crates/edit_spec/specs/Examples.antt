@@ -10,7 +10,7 @@ use Rattle.bib_spec.specs.Texts.{is_empty, words, field_text, seen}
 use Rattle.bib_spec.specs.Records.{Record, entries_of, preambles_of, keys_of, crossref_text, dangling_texts, is_repeated, target, parent, expanded, listed, unknown}
 use Rattle.bib_spec.specs.Pieces.{Piece}
 use Rattle.bib_spec.specs.MadeKeys.{free_key, IsKeyBase}
-use Rattle.edit_spec.specs.Edits.{NewEntry, Edit, SetField, DropField, AddEntry, RemoveEntry, MoveEntry, RenameKey, RenameMacro, InlineMacro, IntroduceMacro, RegenerateKeys, AddMany, DefineMacro, SetMacro, Which, SetsField, DropsField, RenamesFields, SetsType, RenamesKey, Removes, Moves, SetsValue, Undefines, ChangeEntry, ChangeDefinition, edited, Refuses, IsAccepted, BadKey, BadName, BadValue, BadPosition, NotFound, Ambiguous, KeyInUse, NameInUse, Referred, WouldMerge}
+use Rattle.edit_spec.specs.Edits.{NewEntry, Edit, SetField, DropField, AddEntry, RemoveEntry, MoveEntry, RenameKey, RenameMacro, InlineMacro, IntroduceMacro, RegenerateKeys, AddMany, SetType, UndefineMacro, RenameField, DefineMacro, SetMacro, Which, SetsField, DropsField, RenamesFields, SetsType, RenamesKey, Removes, Moves, SetsValue, Undefines, ChangeEntry, ChangeDefinition, edited, Refuses, IsAccepted, BadKey, BadName, BadValue, BadPosition, NotFound, Ambiguous, KeyInUse, NameInUse, Referred, WouldMerge}
 use Rattle.edit_spec.specs.EditChunks.{pieces_of}
 use Rattle.edit_spec.specs.Laws.{dependents}
 
@@ -679,7 +679,7 @@ pub record StarCitesAll : Type 0 where
 
 -- ---- edits that are accepted
 
--- Each law is about accepted edits: here is one of each kind.
+-- The laws are about accepted edits: here is one of each kind, and two of `RenameMacro`.
 pub record EditsAreAccepted : Type 0 where
   pub set : IsAccepted author_year one_field (SetField (codes "a") (codes "y") (only (Digits (codes "2"))))
   pub dropped : IsAccepted author_year one_field (DropField (codes "a") (codes "T"))
@@ -695,3 +695,8 @@ pub record EditsAreAccepted : Type 0 where
   pub many_added : IsAccepted author_year family (AddMany (z ∷ []))
   pub macro_defined : IsAccepted author_year one_field (DefineMacro (codes "m") (only (Digits (codes "2"))))
   pub macro_set : IsAccepted author_year with_remark (SetMacro (codes "a") (only (Digits (codes "2"))))
+  pub type_set : IsAccepted author_year one_field (SetType (codes "a") (codes "book"))
+  pub macro_undefined : IsAccepted author_year undefined_use (UndefineMacro (codes "m"))
+  pub field_renamed : IsAccepted author_year one_field (RenameField (codes "t") (codes "u") None)
+  pub one_entry_changed : IsAccepted author_year one_field (ChangeEntry (record { name = codes "a"; number = Some 0 }) (SetsType (codes "book")))
+  pub one_definition_changed : IsAccepted author_year inlined_twice (ChangeDefinition (codes "m") 1 (SetsValue (only (Digits (codes "2")))))

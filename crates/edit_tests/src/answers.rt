@@ -22,6 +22,8 @@ enum Question {
     IsRepeated(usize),
     Holders(&'static [u8]),
     HoldersOf(&'static [u8]),
+    /// The entry that has this number, from 0, among those with the key.
+    NthHolder(&'static [u8], usize),
     PreambleCount,
     ByteCount,
     /// The first free key of the base `x`, if this key is taken too.
@@ -297,6 +299,34 @@ const OF_ENTRIES: &[Asked] = &[
         answer: Answer::Holders(2, 1),
     },
     Asked {
+        name: "a key has a second holder",
+        file: THREE,
+        changes: &[],
+        question: Question::NthHolder(b"a", 1),
+        answer: Answer::Number(2),
+    },
+    Asked {
+        name: "a key with two holders has no third",
+        file: THREE,
+        changes: &[],
+        question: Question::NthHolder(b"a", 2),
+        answer: Answer::Nothing,
+    },
+    Asked {
+        name: "an entry that comes between two holders moves the second",
+        file: THREE,
+        changes: &[(8, b"", b"@misc{d}")],
+        question: Question::NthHolder(b"A", 1),
+        answer: Answer::Number(3),
+    },
+    Asked {
+        name: "no entry holds the empty key",
+        file: YEARS,
+        changes: &[],
+        question: Question::NthHolder(b"", 0),
+        answer: Answer::Nothing,
+    },
+    Asked {
         name: "the first holder repeats none",
         file: THREE,
         changes: &[],
@@ -511,6 +541,7 @@ fn answer_of<L: ItemList>(
         Question::IsRepeated(n) => Ok(is_repeated(db, *n)),
         Question::Holders(key) => Ok(Said::Number(db.holders(key))),
         Question::HoldersOf(key) => Ok(Said::from(db.holders_of(key))),
+        Question::NthHolder(key, k) => Ok(Said::from(db.nth_holder(key, *k))),
         Question::PreambleCount => Ok(Said::Number(db.preamble_count())),
         Question::ByteCount => Ok(Said::Number(db.byte_count())),
         Question::FreeKey(taken) => free(alloc, db, taken),

@@ -1,6 +1,6 @@
 //! Lists of items.
 
-use bib_store::{Flat, ItemList, StoreFault};
+use bib_store::{Flat, ItemList};
 use std::test::Fail;
 
 #[test]

@@ -1,5 +1,5 @@
 -- Uses and raw texts stay in an extract, which therefore can be opened.
-use Rattle.std.proofs.Common.{◌≡◌, ℕ, suc, ◌+◌, ◌≤◌, Bool, true, false, not, ◌||◌, nat_lt, ◌==◌, List, [], ◌∷◌, ◌++◌, Option, Some, None, option_map, length, find, map, filter, zip, ⊎_elim, refl, sym, ◌∙◌, ap, ap₂, subst, arith, append-nil, length-append}
+use Rattle.std.proofs.Common.{◌≡◌, ℕ, suc, ◌+◌, ◌≤◌, Bool, true, false, ◌||◌, nat_lt, ◌==◌, List, [], ◌∷◌, ◌++◌, Some, None, option_map, length, find, map, zip, ⊎_elim, refl, sym, ◌∙◌, ap, ap₂, subst, arith, length-append}
 use Rattle.std.specs.List.{flat_map, list_any, take_while}
 use Rattle.std.proofs.lemmas.Bool.{cases_Bool, cond-true, cond-false, false≢true}
 use Rattle.std.proofs.lemmas.List.Folds.{list_any-append}
@@ -8,11 +8,11 @@ use Rattle.std.proofs.lemmas.List.{length-map}
 use Rattle.std.proofs.lemmas.Option.{none-some}
 use Rattle.bib_spec.specs.Bytes.{line_feed}
 use Rattle.bib_spec.specs.Text.{Text, is_space, folded, same}
-use Rattle.bib_spec.specs.Tree.{Value, Row, Tree, CommentTree, DefinitionTree, PreambleTree, EntryTree, tree_bytes, row_bytes}
-use Rattle.bib_spec.specs.Reading.{Item, Reading, item_bytes, bytes_of}
-use Rattle.bib_spec.specs.Texts.{Macros, Opens, months, updated, macros_in, macros_after, raw_text, raw_texts_in, raw_texts_from, raw_limit, values_of, value_places, row_places, row_start, too_long_at}
+use Rattle.bib_spec.specs.Tree.{Row, Tree, CommentTree, DefinitionTree, PreambleTree, EntryTree, tree_bytes, row_bytes}
+use Rattle.bib_spec.specs.Reading.{Item, item_bytes}
+use Rattle.bib_spec.specs.Texts.{Macros, months, updated, macros_in, macros_after, raw_text, raw_texts_in, raw_texts_from, raw_limit, values_of, value_places, row_places}
 use Rattle.bib_spec.proofs.Names.{same_comm, true-same}
-use Rattle.extract_spec.specs.Extract.{names_in, without, without_defined, used_by, number_after, stays, names_before, awaited, kept_from, marked, space_of, on_its_line, extract_from, extract_of, keeps_for, kept}
+use Rattle.extract_spec.specs.Extract.{names_in, without_defined, used_by, number_after, names_before, awaited, kept_from, marked, space_of, on_its_line, extract_from, extract_of, keeps_for, kept}
 use Rattle.extract_spec.specs.Laws.{said_from, uses_of, uses_stay, raw_texts_stay, extract_opens, extract_length}
 use Rattle.extract_spec.proofs.ExtractReads.{extract_from-kept, extract_from-left, extract-reads}
 use Rattle.extract_spec.proofs.ExtractSays.{AgreeOn, in_left, in_right, in_without, value_agrees, defined_agree, left_agree}

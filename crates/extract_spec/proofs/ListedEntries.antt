@@ -4,7 +4,7 @@ use Rattle.std.specs.List.{list_any, AllByRecursion, cons_option, range_with_len
 use Rattle.std.proofs.lemmas.Bool.{cases_Bool, cond-true, cond-false, eqb-true, leb-true, and_parts, false≢true}
 use Rattle.std.proofs.lemmas.List.Elements.{All-nil, All-cons, All-head, All-tail, All-append, All-filter}
 use Rattle.bib_spec.specs.Text.{Text}
-use Rattle.bib_spec.specs.Records.{EntryTexts, entry_named, parent, is_parent_of, numbers_of, once, cites_all, cited_by_key, with_parents, listed}
+use Rattle.bib_spec.specs.Records.{EntryTexts, entry_named, is_parent_of, numbers_of, once, cites_all, cited_by_key, with_parents, listed}
 use Rattle.bib_spec.proofs.Parents.{named_within}
 use Rattle.extract_spec.specs.Extract.{found, is_kept_entry}
 use Rattle.extract_spec.specs.Laws.{listed_are_kept}

@@ -1,5 +1,5 @@
 -- The faults that can be explained.
-use Rattle.std.specs.Prelude.{◌≡◌, Bool, ◌||◌, List, [], ◌∷◌, ◌++◌, bytes_eq, Option, find, codes}
+use Rattle.std.specs.Prelude.{Bool, ◌||◌, List, [], ◌∷◌, ◌++◌, bytes_eq, Option, find, codes}
 use Rattle.bib_spec.specs.Text.{Text, same}
 use Rattle.fault_pages.specs.declared.asking.Page.{Page}
 

@@ -1,7 +1,7 @@
 //! The fault that a word names.
 
 ghost use Rattle.std.specs.Prelude.{◌≡◌, find};
-ghost use Rattle.std.specs.Option.{option_map, option_or};
+ghost use Rattle.std.specs.Option.{option_map};
 ghost use Rattle.fault_pages.specs.Heads.{head_of, is_asked, faults_of_questions, asked};
 
 use crate::pages::{

@@ -10,7 +10,7 @@ use crate::folding::FoldedName;
 use crate::kept_name::KeptName;
 use bib_text::NAME_LIMIT;
 use indexmap::IndexMap;
-use std::alloc::{AllocError, AllocFailed, Global};
+use std::alloc::{AllocError, Global};
 use std::marker::Model;
 use std::mem;
 

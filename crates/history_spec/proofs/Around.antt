@@ -1,12 +1,12 @@
 -- Pieces of the first edit before and after what the second edit touches are unchanged.
-use Rattle.history_spec.proofs.Words.{⊎_elim, ◌≡◌, ℕ, ◌+◌, ◌-◌, ◌<◌, ◌≤◌, true, false, nat_le, List, [], ◌∷◌, ◌++◌, length, map, drop, take, refl, sym, subst, ◌∙◌, ap, ap₂, arith, append-nil, append_assoc, length-append, length-drop, cases_Bool, cond-true, cond-false, leb-true, leb-false, lt-leb}
+use Rattle.history_spec.proofs.Words.{⊎_elim, ◌≡◌, ℕ, ◌+◌, ◌-◌, ◌<◌, ◌≤◌, false, nat_le, List, [], ◌∷◌, ◌++◌, length, drop, take, refl, sym, subst, ◌∙◌, ap, ap₂, arith, append-nil, append_assoc, length-append, length-drop, cases_Bool, cond-true, cond-false, leb-true, leb-false, lt-leb}
 use Rattle.history_spec.proofs.Words.{take_at, drop_at, AllByRecursion, between, Text, Piece, end_of, Stands, AscendFrom, IsAscending, Fit, applied, applied_from, reversed_from, reversed, EndBy, length-between, Member, Back, On, piece_of, in_order, back_is_first, Group, group_end, group_old}
-use Rattle.history_spec.proofs.Words.{group_new, with_member, covered_with, alone, groups_from, groups, ApartFrom, AreApart, composed_from, composed_at, composed, composed_after, old_end, new_end, BeginsAfter, StandApart, LiesBetween, fit_back}
+use Rattle.history_spec.proofs.Words.{group_new, with_member, covered_with, alone, groups_from, groups, ApartFrom, AreApart, composed_from, composed_at, composed, composed_after, old_end, new_end, BeginsAfter, StandApart, fit_back}
 use Rattle.history_spec.specs.Composing.{EndBefore, parts_are_composed_in_turn, nothing_changes_nothing, composed_pieces_stand_apart}
-use Rattle.history_spec.proofs.Ordered.{next_back, next_on, OrderedFrom, order_ascends, ascend_earlier}
+use Rattle.history_spec.proofs.Ordered.{next_back, next_on, ascend_earlier}
 use Rattle.history_spec.proofs.Grouped.{AreGroups, are_groups, groups_backs}
 use Rattle.history_spec.proofs.Glued.{glued, backs_glued}
-use Rattle.history_spec.proofs.Parted.{apart_from, apart, same_place}
+use Rattle.history_spec.proofs.Parted.{apart_from, apart}
 use Rattle.history_spec.proofs.Untouched.{MembersAfter, members_after, back_first, new_end_grows, stay_from, untouched-stay}
 use Rattle.history_spec.proofs.Covered.{end_later, standing_rest}
 

@@ -1,15 +1,15 @@
 -- Pieces composed after other pieces, and where pieces end.
-use Rattle.history_spec.proofs.Words.{⊎_elim, zero, suc, ◌≡◌, ℕ, ◌+◌, ◌-◌, ◌<◌, ◌≤◌, true, false, nat_le, get_or, List, [], ◌∷◌, ◌++◌, length, map, take, drop, refl, sym, subst, ◌∙◌, ap, ap₂, arith, append-nil, append_assoc, cases_Bool, cond-true, cond-false, take_at, drop_at, AllByRecursion}
-use Rattle.history_spec.proofs.Words.{between, Text, Piece, end_of, Stands, AscendFrom, IsAscending, Fit, applied, applied_from, reversed_from, reversed, EndBy, fit_back, Member, Back, On, piece_of, in_order, Group, group_end, with_member, alone, groups_from, groups, composed_from, composed_at}
+use Rattle.history_spec.proofs.Words.{⊎_elim, zero, suc, ◌≡◌, ℕ, ◌+◌, ◌-◌, ◌<◌, ◌≤◌, nat_le, get_or, List, [], ◌∷◌, ◌++◌, length, map, take, drop, refl, sym, subst, ◌∙◌, ap, ap₂, arith, append-nil, append_assoc, cases_Bool, cond-true, cond-false, take_at, drop_at, AllByRecursion}
+use Rattle.history_spec.proofs.Words.{Text, Piece, end_of, Stands, Fit, applied, reversed_from, EndBy, fit_back, Member, Back, On, piece_of, in_order, Group, group_end, with_member, alone, groups_from, groups}
 use Rattle.history_spec.proofs.Words.{composed_after, composed, old_end, new_end, BeginsAfter, StandApart, LiesBetween}
 use Rattle.std.proofs.lemmas.List.{take_all, take_more, drop_more}
 use Rattle.bib_spec.specs.Bytes.{file_limit}
-use Rattle.history_spec.specs.Composing.{IsComposable, FitInTurn, ends_of, ComposableAt, IsComposableAt, replaced}
+use Rattle.history_spec.specs.Composing.{IsComposable, ends_of, ComposableAt, IsComposableAt}
 use Rattle.history_spec.proofs.Ordered.{OrderedFrom, order_ascends}
 use Rattle.history_spec.proofs.Grouped.{AreGroups, are_groups}
 use Rattle.history_spec.proofs.Glued.{composed-fit}
 use Rattle.history_spec.proofs.Parted.{same_place}
-use Rattle.history_spec.proofs.Around.{SideStands, side_stands, ascend_front, ascend_past, ascend_after_front, reversed_ascends, reversed_append, fit_part, new_end_append, composed-in_turn, nothing-changes}
+use Rattle.history_spec.proofs.Around.{SideStands, side_stands, ascend_front, ascend_past, ascend_after_front, reversed_ascends, new_end_append, composed-in_turn, nothing-changes}
 
 -- ---- groups from a place on
 

@@ -1,10 +1,10 @@
 -- What the insertion of a text makes of a database, and when it is refused. (dialect)
-use Rattle.std.specs.Prelude.{ℕ, zero, suc, ◌≡◌, ◌<◌, Bool, true, false, ◌&&◌, ◌||◌, ◌==◌, not, nat_lt, List, [], ◌∷◌, ◌++◌, length, take, drop, filter_map, is_some, if◌then◌else◌, Option, Some, None}
+use Rattle.std.specs.Prelude.{ℕ, zero, suc, ◌≡◌, ◌<◌, Bool, true, false, ◌&&◌, ◌||◌, ◌==◌, not, nat_lt, List, [], ◌∷◌, ◌++◌, length, take, drop, is_some, if◌then◌else◌, None}
 use Rattle.std.specs.List.{list_any, last_or}
 use Rattle.std.specs.Option.{option_map_or}
 use Rattle.bib_spec.specs.Bytes.{file_limit, line_feed}
 use Rattle.bib_spec.specs.Text.{Text}
-use Rattle.bib_spec.specs.Tree.{Tree, CommentTree, DefinitionTree, PreambleTree, EntryTree}
+use Rattle.bib_spec.specs.Tree.{Tree, DefinitionTree}
 use Rattle.bib_spec.specs.Reading.{Item, Reading, bytes_of}
 use Rattle.bib_spec.specs.Texts.{is_empty, too_long_at}
 use Rattle.bib_spec.specs.Records.{entries_of, keys_of}

@@ -1,7 +1,6 @@
 //! Edits of a list in pages, beside the plain list of the same items.
 
 use bib_items::{Flat, ItemList, Paged, StoreFault};
-use std::alloc::Global;
 use std::test::Fail;
 
 /// A number that looks random, below `limit`.

@@ -1,5 +1,7 @@
 -- Texts of several pieces or steps, written one after another.
-use Rattle.journal_format.proofs.Words.{◌≡◌, ℕ, ◌+◌, ◌<◌, ◌≤◌, List, [], ◌∷◌, ◌++◌, length, take, get_or, decimal, sym, ◌∙◌, ap, reverse, append_assoc, take_more, take_all, flat_map_more, flat_map, line_feed, Text, Piece, Step, piece_text, pieces_text, step_text, counts, text_in}
+use Rattle.journal_format.proofs.Words.{◌≡◌, ℕ, ◌+◌, ◌-◌, ◌<◌, ◌≤◌, List, [], ◌∷◌, ◌++◌, length, take, drop, min, get_or, decimal, sym, ◌∙◌, ap, arith, reverse, length-append, append_assoc, take-append-drop, take_more, take_all, flat_map_more, flat_map, line_feed, Text, Piece, Step, piece_text, pieces_text, step_text, counts, text_in}
+use Rattle.std.proofs.Common.{length-take, length-drop}
+use Rattle.std.proofs.lemmas.Grind.{flat_map-append}
 use Rattle.std.proofs.lemmas.List.{length-reverse}
 use Rattle.journal_format.specs.JournalText.{head_text, journal_text}
 
@@ -36,3 +38,32 @@ journal_written digest past undone a b d e start head first last =
     last ∙ ap (λ (t : Text). t ++ future) (first ∙ ap (λ (t : Text). t ++ flat_map step_text past) (head ∙ ap (λ (t : Text). t ++ head_text digest (counts (length past) (length undone))) start)) in
     let count : length undone ≡ length (reverse undone) = sym (length-reverse undone) in
     whole ∙ ap (λ (n : ℕ). (head_text digest (counts (length past) n) ++ flat_map step_text past) ++ future) count ∙ simp append_assoc
+
+-- the texts of past steps and future ones are the same, wherever the past ends
+parted_texts : (undos : ℕ) (past future : List Step) → flat_map step_text past ++ flat_map step_text future
+    ≡ flat_map step_text (take undos past) ++ flat_map step_text (drop undos past ++ future)
+parted_texts undos past future =
+    let first : Text = flat_map step_text (take undos past) in
+    ap (λ (ss : List Step). flat_map step_text ss ++ flat_map step_text future) (sym (take-append-drop undos past))
+    ∙ ap (λ (t : Text). t ++ flat_map step_text future) (flat_map-append step_text (take undos past) (drop undos past))
+    ∙ append_assoc first (flat_map step_text (drop undos past)) (flat_map step_text future)
+    ∙ ap (λ (t : Text). first ++ t) (sym (flat_map-append step_text (drop undos past) future))
+
+-- the head, the past steps and the future steps are the journal in which the last of the past steps are future
+pub taken_back_written : (digest : Text) (undos : ℕ) (past future : List Step) (a b d e : Text) → undos ≤ length past → a ≡ []
+    → b ≡ a ++ head_text digest (counts undos (length past - undos + length future)) → d ≡ b ++ flat_map step_text past → e ≡ d ++ flat_map step_text future
+    → e ≡ journal_text (record { digest = digest; past = take undos past; future = drop undos past ++ future })
+unfolding text_in
+taken_back_written digest undos past future a b d e within start head first last =
+    let redos : ℕ = length past - undos + length future in
+    let texts : Text = flat_map step_text (take undos past) ++ flat_map step_text (drop undos past ++ future) in
+    let whole : e ≡ (head_text digest (counts undos redos) ++ flat_map step_text past) ++ flat_map step_text future =
+    last ∙ ap (λ (t : Text). t ++ flat_map step_text future) (first ∙ ap (λ (t : Text). t ++ flat_map step_text past) (head ∙ ap (λ (t : Text). t ++ head_text digest (counts undos redos)) start)) in
+    let some : undos ≡ length (take undos past) = omega (arith, length-take undos past) in
+    let others : redos ≡ length (drop undos past ++ future) = omega (arith, length-append (drop undos past) future, length-drop undos past) in
+    whole
+    ∙ append_assoc (head_text digest (counts undos redos)) (flat_map step_text past) (flat_map step_text future)
+    ∙ ap (λ (t : Text). head_text digest (counts undos redos) ++ t) (parted_texts undos past future)
+    ∙ ap (λ (n : ℕ). head_text digest (counts n redos) ++ texts) some
+    ∙ ap (λ (n : ℕ). head_text digest (counts (length (take undos past)) n) ++ texts) others
+    ∙ simp append_assoc

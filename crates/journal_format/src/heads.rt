@@ -1,6 +1,6 @@
 //! The lines before the steps.
 
-ghost use Rattle.std.specs.Prelude.{ℕ, ◌≡◌, ◌↔◌, IsTrue, IfSome, IfNone, IfOk, IfErr};
+ghost use Rattle.std.specs.Prelude.{◌≡◌, ◌↔◌, IsTrue, IfSome, IfNone, IfOk, IfErr};
 ghost use Rattle.std.specs.List.{list_all};
 ghost use Rattle.journal_format.specs.Contents.{is_hex_digit, IsDigest};
 ghost use Rattle.journal_format.specs.JournalText.{version_line, IsKnown, counts, counts_line, AreFew};

@@ -1,6 +1,6 @@
 //! Pieces as text in a journal.
 
-ghost use Rattle.std.specs.Prelude.{ℕ, ◌≡◌, ◌+◌, ◌++◌, ◌∷◌, length, IfSome, IfNone, IfOk, IfErr};
+ghost use Rattle.std.specs.Prelude.{◌≡◌, ◌+◌, ◌++◌, ◌∷◌, length, IfSome, IfNone, IfOk, IfErr};
 ghost use Rattle.bib_spec.specs.Bytes.{line_feed};
 ghost use Rattle.journal_format.specs.JournalText.{numbers, numbers_line, AreNumbers};
 ghost use Rattle.journal_format.specs.Wrong.{IsLineOf, BeginsWith, HasWrongLine, HasWrongBytes, BeginsWithPiece, IsWrongPiece};

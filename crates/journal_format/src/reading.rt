@@ -1,6 +1,6 @@
 //! Reading a journal.
 
-ghost use Rattle.std.specs.Prelude.{ℕ, ◌≡◌, ◌+◌, IfOk, IfErr, MatchResult};
+ghost use Rattle.std.specs.Prelude.{◌≡◌, ◌+◌, IfOk, IfErr, MatchResult};
 ghost use Rattle.journal_format.specs.Contents.{Contents};
 ghost use Rattle.journal_format.specs.JournalText.{steps_limit, counts};
 ghost use Rattle.journal_format.specs.Wrong.{IsWrongTail, IsWrongFromCounts, IsWrongFromDigest, IsWrongJournal};

@@ -1,7 +1,6 @@
 //! Writing a journal.
 
-ghost use Rattle.std.specs.Prelude.{◌≡◌, ◌++◌, ◌∷◌, [], reverse, length, decimal, OnOk, IfOk};
-ghost use Rattle.bib_spec.specs.Bytes.{line_feed, space};
+ghost use Rattle.std.specs.Prelude.{◌≡◌, ◌≤◌, ◌++◌, ◌∷◌, [], reverse, take, drop, length, decimal, OnOk, IfOk};
 ghost use Rattle.history_spec.specs.Steps.{piece_text, pieces_text, step_text};
 ghost use Rattle.std.specs.List.{flat_map};
 ghost use Rattle.journal_format.specs.JournalText.{counts, head_text, journal_text};
@@ -93,6 +92,15 @@ fn put_steps_back(out: &mut Vec<u8>, steps: &[Step]) -> Result<(), AllocError>
     Ok(())
 }
 
+/// The greatest length of a journal with this digest and these steps, in bytes.
+fn most_len(digest: &[u8], steps: &[Step], others: &[Step]) -> usize {
+    let len = step_texts_len(steps)
+        .saturating_add(step_texts_len(others))
+        .saturating_add(digest.len() as u64)
+        .saturating_add(HEAD_LEN);
+    len as usize
+}
+
 /// The journal, in version 2, of a file with this digest, with these past steps from the oldest, and these undone steps,
 /// the next to be redone last. It takes time linear in the length of the text, and one allocation, for the text.
 pub fn write_journal(
@@ -103,13 +111,34 @@ pub fn write_journal(
 ) -> Result<Text, AllocError>
     ensures { IfOk result (λ text. text ≡ journal_text (record { digest = digest.now; past = past.now; future = reverse undone.now })) }
 {
-    let len = step_texts_len(past)
-        .saturating_add(step_texts_len(undone))
-        .saturating_add(digest.len() as u64)
-        .saturating_add(HEAD_LEN);
-    let mut out = Vec::with_capacity(alloc, len as usize)?;
+    let mut out = Vec::with_capacity(alloc, most_len(digest, past, undone))?;
     put_head(&mut out, digest, past.len() as u64, undone.len() as u64)?;
     put_steps(&mut out, past)?;
     put_steps_back(&mut out, undone)?;
+    Ok(Seq::from_vec(out))
+}
+
+/// The journal, in version 2, of a file with this digest, once only the first `undos` of these past steps are past, and the others
+/// are the next to be redone, before these future steps. No step moves, since the steps keep their order in the text. It takes time
+/// linear in the length of the text, and one allocation, for the text.
+pub fn write_taken_back(
+    alloc: Global,
+    digest: &[u8],
+    undos: usize,
+    past: &[Step],
+    future: &[Step],
+) -> Result<Text, AllocError>
+    requires { undos ≤ length past.now }
+    ensures { IfOk result (λ text. text ≡ journal_text (record {
+      digest = digest.now;
+      past = take undos past.now;
+      future = drop undos past.now ++ future.now;
+    })) }
+{
+    let redos = past.len() - undos + future.len();
+    let mut out = Vec::with_capacity(alloc, most_len(digest, past, future))?;
+    put_head(&mut out, digest, undos as u64, redos as u64)?;
+    put_steps(&mut out, past)?;
+    put_steps(&mut out, future)?;
     Ok(Seq::from_vec(out))
 }

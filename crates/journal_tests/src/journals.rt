@@ -2,7 +2,7 @@
 
 use bib_data::{Piece, is_label};
 use bib_text::{Seq, Text, copied};
-use journal_format::{Step, digest, read_journal, write_journal};
+use journal_format::{Step, digest, read_journal, write_journal, write_taken_back};
 use std::alloc::{AllocError, Global};
 use std::test::Fail;
 
@@ -144,6 +144,19 @@ fn the_undone_step_that_is_next_stands_first(rt: HostRuntime) -> Result<(), Fail
         (0, 2)
     );
     assert!(rt; written_again(alloc, journal.as_slice())?.as_slice() == journal.as_slice());
+    Ok(())
+}
+
+#[test]
+fn a_step_that_is_taken_back_stays_where_it_is(rt: HostRuntime) -> Result<(), Fail> {
+    let alloc = rt.alloc();
+    let mut past = Vec::new(alloc);
+    past.push(step(alloc, b"", 0, b"x", b"")?)?;
+    past.push(step(alloc, b"l", 1, b"", b"last")?)?;
+    let digest = digest(alloc, b"abc")?;
+    let journal = write_taken_back(alloc, digest.as_slice(), 1, past.as_slice(), &[])?;
+    let steps: &[u8] = b"1 1\n\n1\n0 1 0\nx\nl\n1\n1 0 4\nlast\n";
+    assert!(rt; journal.as_slice().ends_with(steps));
     Ok(())
 }
 

@@ -1,10 +1,8 @@
 //! What `merge` answers to the bytes of three files.
 
 ghost use Rattle.std.specs.Prelude.{◌≡◌, ◌≢◌, [], map, slice_index_or, IfOk};
-ghost use Rattle.merge_spec.specs.Conflicts.{is_any};
 ghost use Rattle.bib_places.specs.ConflictsSeen.{conflict_seen};
 ghost use Rattle.bib_merge.specs.declared.fault.MergeFault.TheVariants.{Memory};
-ghost use Rattle.bib_answers.specs.Outcome.{answer_of};
 ghost use Rattle.merge_run.specs.Answers.{merged_status, merged_answer, fault_line, IsMergeAnswer};
 
 use crate::lines::told_lines;

@@ -7,14 +7,15 @@ pub fn units_make_the_file()
     ensures { units_are_the_file }
 {}
 
-/// A unit of one side that is in no merge is one that the other side took away and this side left, or one that this side left
-/// and the other changed.
+/// For each unit of ours there is a place in the merge that keeps our version, whole or by its fields, or both versions; or we
+/// left the unit as it was, and theirs is taken or they took it away. The same holds of each unit of theirs, but ours is also
+/// taken if both say the same.
 pub fn no_unit_of_a_side_is_lost()
     ensures ours { nothing_of_ours_is_lost }
     ensures theirs { nothing_of_theirs_is_lost }
 {}
 
-/// A merge without conflicts has no markers: each unit of it is there once, as one of the sides has it.
+/// There is a conflict exactly if the merge keeps both versions of some unit. So no marker is written without a conflict.
 pub fn each_pair_of_versions_is_a_conflict()
     ensures { conflicts_are_all_told }
 {}

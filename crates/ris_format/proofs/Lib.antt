@@ -17,6 +17,7 @@ pub mod PartLaws
 pub mod NameScans
 pub mod PieceSteps
 pub mod TakenApart
+pub mod NamesWithWords
 pub mod WrittenNames
 pub mod OpaqueValues
 pub mod PeopleLaws
@@ -24,6 +25,7 @@ pub mod PeopleLaws
 pub mod LineLaws
 pub mod EscapeLaws
 pub mod LeftOut
+pub mod NeverDropped
 pub mod SectionLaws
 pub mod MappingLaw
 pub mod FitLaws

@@ -101,7 +101,8 @@ onto-some : (b : ℕ) (ps : List Text) → onto_first b ps ≡ [] → ⊥
 onto-some b [] e = cc
 onto-some b (p ∷ ps) e = cc
 
-pieces-some : (o c : ℕ) (t : Text) → pieces_from o c t ≡ [] → ⊥
+-- there is a piece
+pub pieces-some : (o c : ℕ) (t : Text) → pieces_from o c t ≡ [] → ⊥
 pieces-some o c [] e = cc
 pieces-some o c (b ∷ t) e =
     ⊎_elim

@@ -275,7 +275,7 @@ all-family : (P : NameWord → Type 0) (von last : List NameWord) → AllByRecur
 all-family P von [] all more = tt
 all-family P von (w ∷ ws) all more = all-append P von (w ∷ ws) all more
 
-words-of : (name : Text) (s : Stretch) → IsPieceOf name s → AllByRecursion (IsWordIn s.at s.text) (words_of s)
+pub words-of : (name : Text) (s : Stretch) → IsPieceOf name s → AllByRecursion (IsWordIn s.at s.text) (words_of s)
 words-of name s piece = words-in s.at s.text (level-end s.text piece.level)
 
 one-piece : (name : Text) (s : Stretch) → IsPieceOf name s → IsBalanced name → (a e : ℕ) → AreParts name (cut_at a e (words_of s))
@@ -347,12 +347,16 @@ dropped-no_brace b k which h =
     (λ (s : eqb b 44 ≡ true). false_from_ne_true (eqb b k) (λ e. let x = eqb-true b 44 s in let y = eqb-true b k e in ⊎_elim (λ w. absurd (omega arith)) (λ w. absurd (omega arith)) which))
     (or_cases (is_separator b) (eqb b 44) h)
 
-pub name-parts : (name : Text) (parts : Name) → IsBalanced name → opens name ≡ closes name → parts_of name ≡ Some parts → AreParts name parts
-name-parts name parts is level e =
+-- the pieces of a name without its end are pieces of the name
+pub name-pieces : (name : Text) → opens name ≡ closes name → AllByRecursion (IsPieceOf name) (between 1 (without_end name) 0 (commas (without_end name)))
+name-pieces name level =
     let bare = without_end name in
     let n = up_to_last (λ byte. not (is_dropped_at_end byte)) name in
     let o : opens bare ≡ opens name = count-before_run is_dropped_at_end (λ b. eqb b 123) name (λ b h. dropped-no_brace b 123 (inl refl) h) in
     let c : closes bare ≡ closes name = count-before_run is_dropped_at_end (λ b. eqb b 125) name (λ b h. dropped-no_brace b 125 (inr refl) h) in
     let whole : bare ++ drop n name ≡ name = take-append-drop n name in
-    let pieces = pieces-of bare (drop n name) (between 1 bare 0 (commas bare)) (all-stretches bare (o ∙ level ∙ sym c)) in
-    from-pieces name (between 1 bare 0 (commas bare)) (subst (λ (u : Text). AllByRecursion (IsPieceOf u) (between 1 bare 0 (commas bare))) whole pieces) is parts e
+    subst (λ (u : Text). AllByRecursion (IsPieceOf u) (between 1 bare 0 (commas bare))) whole
+    (pieces-of bare (drop n name) (between 1 bare 0 (commas bare)) (all-stretches bare (o ∙ level ∙ sym c)))
+
+pub name-parts : (name : Text) (parts : Name) → IsBalanced name → opens name ≡ closes name → parts_of name ≡ Some parts → AreParts name parts
+name-parts name parts is level e = from-pieces name (between 1 (without_end name) 0 (commas (without_end name))) (name-pieces name level) is parts e

@@ -1,11 +1,11 @@
 -- The pieces between commas that are found after some places are passed.
 use Rattle.ris_format.proofs.Words.{◌≡◌, ℕ, ◌+◌, ◌-◌, ◌≤◌, ◌<◌, Bool, true, false, cond, ◌&&◌, eqb, [], ◌∷◌, ◌++◌, length, take, drop, get_or, refl, sym, ap, ◌∙◌, arith, append-nil, slice_range, slice_split, onto_first, cond-true, cond-false, and_parts, eqb-true, take_all, drop_all, get_or-drop}
-use Rattle.ris_format.proofs.Words.{length-drop, Text, trimmed, one, pieces_from, with_front, name_pieces, is_comma_byte}
+use Rattle.ris_format.proofs.Words.{length-drop, Text, commas, trimmed, one, pieces_from, with_front, name_pieces, is_comma_byte}
 use Rattle.std.proofs.Common.{List, append_assoc, map}
 use Rattle.std.proofs.lemmas.List.{take_more, drop_more}
 use Rattle.ris_format.specs.Keywords.{keyword_pieces}
 use Rattle.ris_format.proofs.KeywordLaws.{front-onto, front-split}
-use Rattle.ris_format.proofs.NameScans.{pieces-front}
+use Rattle.ris_format.proofs.NameScans.{pieces-front, pieces-some, commas-count}
 use Rattle.ris_format.proofs.PeopleLaws.{name-pieces_are}
 
 nothing : (text : Text) (place : ℕ) → slice_range text place place ≡ []
@@ -45,24 +45,47 @@ one-le brace b = go (eqb b brace)
     go true = omega arith
     go false = omega arith
 
-pub pieces_cut : (value : Text) (pieces : List Text) (start place o c o' c' : ℕ) → place < length value → ArePiecesSoFar value pieces start place o c → (eqb o c && eqb (get_or value place 0) 44) ≡ true
-    → o' ≡ o + one 123 (get_or value place 0) → c' ≡ c + one 125 (get_or value place 0) → ArePiecesSoFar value (pieces ++ trimmed (slice_range value start place) ∷ []) (place + 1) (place + 1) o' c'
-pieces_cut value pieces start place o c o' c' lt far h eo ec =
+-- at a comma a piece ends, at the same depth
+record EndsPiece (value : Text) (place o c o' c' : ℕ) : Type 0 where
+  same_opened : o ≡ o'
+  same_closed : c ≡ c'
+  split : pieces_from o c (drop place value) ≡ [] ∷ pieces_from o' c' (drop (place + 1) value)
+
+piece_ends : (value : Text) (place o c o' c' : ℕ) → place < length value → (eqb o c && eqb (get_or value place 0) 44) ≡ true → o' ≡ o + one 123 (get_or value place 0) → c' ≡ c + one 125 (get_or value place 0) → EndsPiece value place o c o' c'
+piece_ends value place o c o' c' lt h eo ec =
     let b = get_or value place 0 in
     let is = eqb-true b 44 (and_parts (eqb o c) (eqb b 44) h).1 in
     let same_o : o ≡ o' = omega (arith, eo, ap (one 123) is) in
     let same_c : c ≡ c' = omega (arith, ec, ap (one 125) is) in
+    let t = drop (place + 1) value in
+    record {
+      same_opened = same_o;
+      same_closed = same_c;
+      split = ap (pieces_from o c) (drop_more value place 0 lt) ∙ cond-true (eqb o c && eqb b 44) ([] ∷ pieces_from o c t) _ h ∙ ap (λ n. [] ∷ pieces_from n c t) same_o ∙ ap (λ n. [] ∷ pieces_from o' n t) same_c;
+    }
+
+-- and elsewhere it goes on
+piece_goes_on : (value : Text) (place o c o' c' : ℕ) → place < length value → (eqb o c && eqb (get_or value place 0) 44) ≡ false → o' ≡ o + one 123 (get_or value place 0) → c' ≡ c + one 125 (get_or value place 0)
+    → pieces_from o c (drop place value) ≡ onto_first (get_or value place 0) (pieces_from o' c' (drop (place + 1) value))
+piece_goes_on value place o c o' c' lt h eo ec =
+    let b = get_or value place 0 in
+    let t = drop (place + 1) value in
+    ap (pieces_from o c) (drop_more value place 0 lt) ∙ cond-false (eqb o c && eqb b 44) ([] ∷ pieces_from o c t) _ h
+    ∙ ap (λ n. onto_first b (pieces_from n (c + one 125 b) t)) (sym eo) ∙ ap (λ n. onto_first b (pieces_from o' n t)) (sym ec)
+
+pub pieces_cut : (value : Text) (pieces : List Text) (start place o c o' c' : ℕ) → place < length value → ArePiecesSoFar value pieces start place o c → (eqb o c && eqb (get_or value place 0) 44) ≡ true
+    → o' ≡ o + one 123 (get_or value place 0) → c' ≡ c + one 125 (get_or value place 0) → ArePiecesSoFar value (pieces ++ trimmed (slice_range value start place) ∷ []) (place + 1) (place + 1) o' c'
+pieces_cut value pieces start place o c o' c' lt far h eo ec =
     let s = slice_range value start place in
     let t = drop (place + 1) value in
-    let split : pieces_from o c (drop place value) ≡ [] ∷ pieces_from o' c' t =
-    ap (pieces_from o c) (drop_more value place 0 lt) ∙ cond-true (eqb o c && eqb b 44) ([] ∷ pieces_from o c t) _ h ∙ ap (λ n. [] ∷ pieces_from n c t) same_o ∙ ap (λ n. [] ∷ pieces_from o' n t) same_c in
+    let cut = piece_ends value place o c o' c' lt h eo ec in
     let told : pieces ++ (trimmed s ∷ map trimmed (pieces_from o' c' t)) ≡ name_pieces value =
     ap (λ (u : Text). pieces ++ (trimmed u ∷ map trimmed (pieces_from o' c' t))) (sym (append-nil s))
-    ∙ ap (λ (ps : List Text). pieces ++ map trimmed (with_front s ps)) (sym split) ∙ far.told in
+    ∙ ap (λ (ps : List Text). pieces ++ map trimmed (with_front s ps)) (sym cut.split) ∙ far.told in
     record {
       within = omega arith;
-      few_opened = omega (arith, far.few_opened, same_o);
-      few_closed = omega (arith, far.few_closed, same_c);
+      few_opened = omega (arith, far.few_opened, cut.same_opened);
+      few_closed = omega (arith, far.few_closed, cut.same_closed);
       told = append_assoc pieces (trimmed s ∷ []) _
           ∙ ap (λ (u : Text). pieces ++ (trimmed s ∷ map trimmed (with_front u (pieces_from o' c' t)))) (nothing value (place + 1))
           ∙ ap (λ (ps : List Text). pieces ++ (trimmed s ∷ map trimmed ps)) (pieces-front o' c' t) ∙ told;
@@ -74,9 +97,7 @@ pieces_on value pieces start place o c o' c' lt far h eo ec =
     let b = get_or value place 0 in
     let s = slice_range value start place in
     let t = drop (place + 1) value in
-    let split : pieces_from o c (drop place value) ≡ onto_first b (pieces_from o' c' t) =
-    ap (pieces_from o c) (drop_more value place 0 lt) ∙ cond-false (eqb o c && eqb b 44) ([] ∷ pieces_from o c t) _ h
-    ∙ ap (λ n. onto_first b (pieces_from n (c + one 125 b) t)) (sym eo) ∙ ap (λ n. onto_first b (pieces_from o' n t)) (sym ec) in
+    let split = piece_goes_on value place o c o' c' lt h eo ec in
     record {
       within = omega (arith, far.within);
       few_opened = omega (arith, far.few_opened, eo, one-le 123 b);
@@ -91,6 +112,51 @@ pieces_end value pieces start place o c is far =
     let s = slice_range value start place in
     ap (λ (u : Text). pieces ++ trimmed u ∷ []) (sym (rest_of value start place is) ∙ sym (append-nil s))
     ∙ ap (λ (u : Text). pieces ++ map trimmed (with_front s (pieces_from o c u))) (sym (drop_all place value (omega arith))) ∙ far.told
+
+-- ---- commas of a name
+
+-- the commas so far, and those of the rest
+pub record AreCommasSoFar (text : Text) (count place opened closed : ℕ) : Type 0 where
+  pub few : count ≤ place
+  pub few_opened : opened ≤ place
+  pub few_closed : closed ≤ place
+  pub told : count + length (pieces_from opened closed (drop place text)) ≡ 1 + length (commas text)
+
+pub commas_none : (text : Text) → AreCommasSoFar text 0 0 0 0
+commas_none text = record { few = omega arith; few_opened = omega arith; few_closed = omega arith; told = omega (arith, commas-count text) }
+
+pub commas_cut : (text : Text) (count place o c o' c' : ℕ) → place < length text → AreCommasSoFar text count place o c → (eqb o c && eqb (get_or text place 0) 44) ≡ true
+    → o' ≡ o + one 123 (get_or text place 0) → c' ≡ c + one 125 (get_or text place 0) → AreCommasSoFar text (count + 1) (place + 1) o' c'
+commas_cut text count place o c o' c' lt far h eo ec =
+    let cut = piece_ends text place o c o' c' lt h eo ec in
+    record {
+      few = omega (arith, far.few);
+      few_opened = omega (arith, far.few_opened, cut.same_opened);
+      few_closed = omega (arith, far.few_closed, cut.same_closed);
+      told = omega (arith, ap length cut.split, far.told);
+    }
+
+pub commas_on : (text : Text) (count place o c o' c' : ℕ) → place < length text → AreCommasSoFar text count place o c → (eqb o c && eqb (get_or text place 0) 44) ≡ false
+    → o' ≡ o + one 123 (get_or text place 0) → c' ≡ c + one 125 (get_or text place 0) → AreCommasSoFar text count (place + 1) o' c'
+commas_on text count place o c o' c' lt far h eo ec =
+    let b = get_or text place 0 in
+    let later = pieces_from o' c' (drop (place + 1) text) in
+    let split = ap length (piece_goes_on text place o c o' c' lt h eo ec) ∙ as_many b later (pieces-some o' c' (drop (place + 1) text)) in
+    record {
+      few = omega (arith, far.few);
+      few_opened = omega (arith, far.few_opened, eo, one-le 123 b);
+      few_closed = omega (arith, far.few_closed, ec, one-le 125 b);
+      told = omega (arith, split, far.told);
+    }
+  where
+    as_many : (b : ℕ) (ps : List Text) → (ps ≡ [] → ⊥) → length (onto_first b ps) ≡ length ps
+    as_many b [] some = absurd (some refl)
+    as_many b (p ∷ ps) some = refl
+
+pub commas_all : (text : Text) (count place o c : ℕ) → length text ≤ place → AreCommasSoFar text count place o c → count ≡ length (commas text)
+commas_all text count place o c end far =
+    let none = ap (λ (u : Text). length (pieces_from o c u)) (drop_all place text end) in
+    omega (arith, none, far.told)
 
 -- ---- keywords
 

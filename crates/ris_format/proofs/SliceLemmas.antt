@@ -8,7 +8,8 @@ pub words_end-last : (word : NameWord) (words : List NameWord) (d : NameWord) �
 words_end-last word [] d = refl
 words_end-last word (next ∷ words) d = words_end-last next words d
 
-words_end-append : (word : NameWord) (von : List NameWord) (next : NameWord) (words : List NameWord) → words_end word (von ++ (next ∷ words)) ≡ words_end next words
+-- words end where the last of them ends
+pub words_end-append : (word : NameWord) (von : List NameWord) (next : NameWord) (words : List NameWord) → words_end word (von ++ (next ∷ words)) ≡ words_end next words
 words_end-append word [] next words = refl
 words_end-append word (v ∷ von) next words = words_end-append v von next words
 

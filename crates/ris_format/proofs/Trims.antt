@@ -49,7 +49,7 @@ before_run-none test [] none = refl
 before_run-none test (b ∷ t) none = ap (λ c. take (cond c (suc (up_to_last (fails test) t)) 0) (b ∷ t)) none
 
 -- where some byte fails, the last that is left is one
-ends-before : (test : ℕ → Bool) (t : Text) → list_any (fails test) t ≡ true → (ends_not test (before_run test t) ≡ true) × (has_bytes (before_run test t) ≡ true)
+pub ends-before : (test : ℕ → Bool) (t : Text) → list_any (fails test) t ≡ true → (ends_not test (before_run test t) ≡ true) × (has_bytes (before_run test t) ≡ true)
 ends-before test [] some = absurd (cc)
 ends-before test (b ∷ t) some =
     ⊎_elim

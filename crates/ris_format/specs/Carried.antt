@@ -48,3 +48,9 @@ is_written name text =
 -- name leave a line
 abbrev pub is_carried : Kind → Text → Text → Bool
 is_carried kind name text = list_any (bytes_eq name) (field_names kind) && is_written name text
+
+-- the names of fields of which the table has a line for each type of record, and no rule drops a text
+abbrev pub always_names : List Text
+always_names =
+    codes "title" ∷ codes "series" ∷ codes "journal" ∷ codes "volume" ∷ codes "number" ∷ codes "pages" ∷ codes "address" ∷ codes "url"
+    ∷ codes "doi" ∷ codes "abstract" ∷ codes "note" ∷ []

@@ -1,11 +1,11 @@
 //! Dates, both ways: `year/MM//`.
 
-ghost use Rattle.std.specs.Prelude.{◌≡◌, ◌++◌, ◌||◌, ◌≤◌, OnOk, IfOk, length, map, take, drop, codes};
-ghost use Rattle.std.specs.List.{prefix_len, list_any, flat_map};
+ghost use Rattle.std.specs.Prelude.{◌≡◌, ◌++◌, ◌||◌, ◌≤◌, OnOk, IfOk, length, map, take};
+ghost use Rattle.std.specs.List.{prefix_len, flat_map};
 ghost use Rattle.std.specs.Option.{option_copied};
 ghost use Rattle.bib_spec.specs.Text.{same};
 ghost use Rattle.ris_format.specs.Lines.{line};
-ghost use Rattle.ris_format.specs.Dates.{shown, digits_among, named_among, is_named_among, has_slash, month_digits, written_year, written_month, date_value, written_date, is_no_slash, before_slash, after_slash, read_year, is_zero_digit, plain_number, numbers_month, read_month, is_plain_month};
+ghost use Rattle.ris_format.specs.Dates.{shown, digits_among, named_among, is_named_among, has_slash, month_digits, written_year, written_month, date_value, written_date, is_no_slash, before_slash, after_slash, read_year, is_zero_digit, plain_number, read_month, is_plain_month};
 
 use crate::keeping::Kept;
 use crate::kinds::is;

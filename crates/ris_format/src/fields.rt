@@ -1,13 +1,16 @@
 //! Fields of a record by their names.
 
-ghost use Rattle.std.specs.Prelude.{◌≡◌, ◌++◌, ◌∷◌, [], OnOk, IfOk, codes, filter, map};
+ghost use Rattle.std.specs.Prelude.{◌≡◌, ◌++◌, ◌∷◌, [], ℕ, List, true, false, OnOk, IfOk, codes, filter, map};
 ghost use Rattle.std.specs.List.{list_any};
 ghost use Rattle.std.specs.Str.{bytes_eq};
-ghost use Rattle.ris_format.specs.Mapping.{is_filled, has_text, text_of, field, later_names, field_names, ris_names};
+ghost use Rattle.bib_spec.specs.Text.{folded, same};
+ghost use Rattle.ris_format.specs.Carried.{always_names};
+ghost use Rattle.ris_format.specs.Kinds.{kind_of_entry};
+ghost use Rattle.ris_format.specs.Mapping.{is_filled, has_text, text_of, field, later_names, field_names, ris_names, is_dropped};
 
 use crate::kinds::{Kind, is};
 use crate::text::{copy_with_room, has_bytes};
-use bib_text::{Text, copied};
+use bib_text::{Text, copied, same_folded};
 use std::alloc::{AllocError, Global};
 
 /// A record made of RIS has at most this many fields, however many lines the RIS record has.
@@ -138,6 +141,32 @@ pub(crate) fn has_field(kind: Kind, name: &[u8]) -> bool
         || is(name, b"title")
         || !kind.is_article() && is(name, b"booktitle")
         || is_later_name(kind, name)
+}
+
+/// Whether the name is one of `always_names`, ASCII case aside.
+fn is_always_name(name: &[u8]) -> bool
+    ensures { result ≡ list_any (same name.now) always_names }
+{
+    same_folded(name, b"title")
+        || same_folded(name, b"series")
+        || same_folded(name, b"journal")
+        || same_folded(name, b"volume")
+        || same_folded(name, b"number")
+        || same_folded(name, b"pages")
+        || same_folded(name, b"address")
+        || same_folded(name, b"url")
+        || same_folded(name, b"doi")
+        || same_folded(name, b"abstract")
+        || same_folded(name, b"note")
+}
+
+/// Whether RIS drops no field of this name in lower case, whatever its text and the record's type: a line comes from each
+/// such field that has a text. It takes no memory.
+pub fn is_always_written(name: &[u8]) -> bool
+    ensures name { result ≡ list_any (same name.now) always_names }
+    ensures kept { result ≡ true → (kind_name text : List ℕ) → is_dropped (kind_of_entry kind_name) (field (folded name.now) text) ≡ false }
+{
+    is_always_name(name)
 }
 
 /// The names of the fields that RIS records are made of, whatever their type: to make one, a caller needs no other

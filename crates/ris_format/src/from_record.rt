@@ -3,21 +3,22 @@
 ghost use Rattle.std.specs.Prelude.{◌≡◌, ◌++◌, ◌∷◌, [], if◌then◌else◌, true, IfOk, IfErr, OnOk, map, filter};
 ghost use Rattle.std.specs.List.{flat_map};
 ghost use Rattle.ris_text.specs.Writing.{record_text, is_well_formed};
-ghost use Rattle.ris_format.specs.Kinds.{ris_type};
+ghost use Rattle.ris_format.specs.Kinds.{ris_type, kind_of_entry};
 ghost use Rattle.ris_format.specs.Lines.{lines_of};
-ghost use Rattle.ris_format.specs.Mapping.{booktitle_text, written_names, written_titles, written_numbers, written_publishers, written_notes, written_fields, written, ris, is_dropped, dropped};
+ghost use Rattle.ris_format.specs.Mapping.{field, booktitle_text, written_names, written_titles, written_numbers, written_publishers, written_notes, written_fields, written, ris, is_dropped, dropped};
 ghost use Rattle.ris_format.specs.Carried.{is_written, is_carried};
 ghost use Rattle.ris_format.specs.declared.fault.MappingFault.TheVariants.{Memory};
 
 use crate::dates::{has_slash, month_digits, push_date};
 use crate::fault::MappingFault;
 use crate::fields::{has_field, text_of};
+use crate::judging::are_written_people;
 use crate::keeping::Kept;
 use crate::keywords::{has_keyword, push_keywords};
 use crate::kinds::{Kind, is};
 use crate::lines::push_single;
 use crate::pages::{push_end, push_start};
-use crate::people::{are_written_people, push_people};
+use crate::people::push_people;
 use crate::text::has_bytes;
 use bib_data::Record;
 use bib_text::{Seq, Text, copied};
@@ -175,14 +176,23 @@ fn is_carried(alloc: Global, kind: Kind, name: &[u8], text: &[u8]) -> Result<boo
     is_written(alloc, name, text)
 }
 
-/// Whether the field has a text, and no line comes from it.
-fn is_dropped(alloc: Global, kind: Kind, field: &(Text, Text)) -> Result<bool, AllocError>
-    ensures { IfOk result (λ b. b ≡ is_dropped kind field.now) }
+/// Whether a field of this name has a text, and no line comes from it.
+fn is_dropped(alloc: Global, kind: Kind, name: &[u8], text: &[u8]) -> Result<bool, AllocError>
+    ensures { IfOk result (λ b. b ≡ is_dropped kind (field name.now text.now)) }
 {
-    if !has_bytes(field.1.as_slice()) {
+    if !has_bytes(text) {
         return Ok(false);
     }
-    Ok(!is_carried(alloc, kind, field.0.as_slice(), field.1.as_slice())?)
+    Ok(!is_carried(alloc, kind, name, text)?)
+}
+
+/// Whether RIS drops a field of this name with this text from a record of this type, as `dropped_of` says of all fields of
+/// a record. It takes time in the length of the text, and memory if it is a list of names: for their places. The one
+/// refusal is want of memory.
+pub fn drops(alloc: Global, kind_name: &[u8], name: &[u8], text: &[u8]) -> Result<bool, AllocError>
+    ensures { IfOk result (λ b. b ≡ is_dropped (kind_of_entry kind_name.now) (field name.now text.now)) }
+{
+    is_dropped(alloc, Kind::of_entry(kind_name), name, text)
 }
 
 /// Adds the name of the field if the field is dropped.
@@ -194,7 +204,7 @@ fn push_dropped(
 ) -> Result<(), AllocError>
     ensures { OnOk result (names.new.items ≡ (if is_dropped kind field.now then names.old.items ++ field.now.0 ∷ [] else names.old.items)) }
 {
-    if is_dropped(alloc, kind, field)? {
+    if is_dropped(alloc, kind, field.0.as_slice(), field.1.as_slice())? {
         let name = copied(alloc, field.0.as_slice())?;
         names.push(name)?;
     }
@@ -263,8 +273,8 @@ pub fn ris_of(alloc: Global, entry: &Record) -> Result<RisRecord, MappingFault>
 /// They are fields that the table of the record's type does not have, lists of names that cannot be taken apart or have
 /// no word, years with a slash, months whose text names no month, and keywords without a word. They come in the record's
 /// order. A field with an empty text is left out too, but says nothing, and is not named. It makes no RIS record: it takes
-/// time in the record's size, and memory for the names and for the words of one list of names. The one refusal is want of
-/// memory.
+/// time in the record's size, and memory for the names and for the places in one list of names. The one refusal is want
+/// of memory.
 pub fn dropped_of(alloc: Global, entry: &Record) -> Result<Seq<Text>, MappingFault>
     ensures dropped { IfOk result (λ names. names ≡ dropped entry.now) }
     ensures memory { IfErr result (λ fault. fault ≡ Memory) }

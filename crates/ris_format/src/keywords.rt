@@ -3,7 +3,7 @@
 ghost use Rattle.std.specs.Prelude.{◌≡◌, ◌++◌, OnOk, IfOk, map, filter};
 ghost use Rattle.std.specs.List.{flat_map};
 ghost use Rattle.ris_format.specs.Lines.{has_bytes, line};
-ghost use Rattle.ris_format.specs.Keywords.{is_comma_byte, keyword_pieces, written_keywords, read_keywords, are_plain_keywords};
+ghost use Rattle.ris_format.specs.Keywords.{is_comma_byte, keyword_pieces, written_keywords, are_plain_keywords};
 ghost use Rattle.ris_format.specs.Carried.{is_of_keyword, has_keyword};
 
 use crate::keeping::Kept;

@@ -8,6 +8,7 @@ mod escaping;
 mod fault;
 mod fields;
 mod from_record;
+mod judging;
 mod keeping;
 mod keywords;
 mod kinds;
@@ -21,8 +22,8 @@ mod text;
 mod to_record;
 
 pub use fault::MappingFault;
-pub use fields::ris_names;
-pub use from_record::{dropped_of, ris_of, to_ris, write_entry};
+pub use fields::{is_always_written, ris_names};
+pub use from_record::{dropped_of, drops, ris_of, to_ris, write_entry};
 pub use laws::{a_record_of_the_profile_is_kept, escaped_texts_balance, given_records_fit};
 pub use new_entry::{into_entry, to_entry};
 pub use profile::in_profile;

@@ -1,8 +1,7 @@
 //! Pages, both ways: the first and the last.
 
-ghost use Rattle.std.specs.Prelude.{◌≡◌, ◌++◌, ◌≤◌, OnOk, IfOk, length, map, take, drop, ◌+◌};
+ghost use Rattle.std.specs.Prelude.{◌≡◌, ◌++◌, ◌≤◌, OnOk, IfOk, length, map, drop, ◌+◌};
 ghost use Rattle.std.specs.List.{prefix_len, list_all, flat_map};
-ghost use Rattle.bib_spec.specs.Text.{after_run};
 ghost use Rattle.bib_text.specs.Trimming.{before_run};
 ghost use Rattle.ris_format.specs.Lines.{line};
 ghost use Rattle.ris_format.specs.Pages.{is_no_hyphen, begins_with_hyphen, before_dash, has_dash, before_cut, after_cut, is_margin, page, are_two, written_start, written_end, read_pages, is_plain_page, are_plain_pages};

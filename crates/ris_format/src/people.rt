@@ -4,7 +4,6 @@ ghost use Rattle.std.specs.Prelude.{◌≡◌, ◌++◌, ◌==◌, ◌&&◌, ◌
 ghost use Rattle.std.specs.List.{slice_range, list_all, flat_map};
 ghost use Rattle.ris_format.specs.Lines.{line};
 ghost use Rattle.ris_format.specs.People.{word_end, to_last_end, part_text, family, person, ris_name, bib_name, is_somebody, taken_apart, is_broken, written_person, written_name, written_names, written_people, name_pieces, person_of, lacks_and, is_opaque, read_balanced, read_name, read_people, is_plain_person, is_plain_name, are_plain_names};
-ghost use Rattle.ris_format.specs.Carried.{are_written_names, are_written_people};
 ghost use Rattle.bib_names.specs.Label.{balances, listed_names};
 
 use crate::braces::Braces;
@@ -145,7 +144,7 @@ fn person_in(alloc: Global, name: &[u8]) -> Result<Option<Person<'_>>, AllocErro
 }
 
 /// The names of a list, none if its braces do not balance.
-fn listed_names(alloc: Global, list: &[u8]) -> Result<Seq<&[u8]>, AllocError>
+pub(crate) fn listed_names(alloc: Global, list: &[u8]) -> Result<Seq<&[u8]>, AllocError>
     ensures { IfOk result (λ names. map (λ n. n.now) names ≡ listed_names list.now) }
 {
     match split_names(alloc, list) {
@@ -153,34 +152,6 @@ fn listed_names(alloc: Global, list: &[u8]) -> Result<Seq<&[u8]>, AllocError>
         Err(NameFault::UnbalancedName) => Ok(Seq::empty(alloc)),
         Err(_) => Err(AllocError),
     }
-}
-
-/// Whether the name has a word, or one before it has.
-fn is_somebody_yet(before: bool, person: &Person<'_>) -> bool
-    ensures { result ≡ (before || is_somebody person.now) }
-{
-    before || person.is_somebody()
-}
-
-/// Whether none of these names is refused, and one has a word.
-fn are_written_names(alloc: Global, names: &[&[u8]]) -> Result<bool, AllocError>
-    ensures { IfOk result (λ b. b ≡ are_written_names (map (λ n. n.now) names.now)) }
-{
-    let mut is_somebody = false;
-    for name in names {
-        let Some(person) = person_in(alloc, name)? else {
-            return Ok(false);
-        };
-        is_somebody = is_somebody_yet(is_somebody, &person);
-    }
-    Ok(is_somebody)
-}
-
-/// Whether a list has a name with a word, and neither the list nor a name of it is refused.
-pub(crate) fn are_written_people(alloc: Global, list: &[u8]) -> Result<bool, AllocError>
-    ensures { IfOk result (λ b. b ≡ are_written_people list.now) }
-{
-    are_written_names(alloc, listed_names(alloc, list)?.as_slice())
 }
 
 // ---- writing
@@ -253,7 +224,7 @@ pub(crate) fn push_people<T: Kept>(
 // ---- reading
 
 /// Whether a name is cut at this byte.
-fn is_cut(braces: Braces, byte: u8) -> bool
+pub(crate) fn is_cut(braces: Braces, byte: u8) -> bool
     ensures { result ≡ (braces.opened == braces.closed && byte == 44) }
 {
     braces.are_level() && byte == b','

@@ -1,6 +1,6 @@
 -- What lines say, line by line.
-use Rattle.ris_text.proofs.Words.{◌≡◌, ℕ, ◌+◌, ◌≤◌, Bool, true, false, [], ◌∷◌, ◌++◌, length, refl, sym, ap, ◌∙◌, arith, append_assoc, if◌then◌else◌, Ok, Err, Text, is_empty, Class, Begin, End, Known, Other, Blank, Untagged, RisLine, RisRecord, RisFault, EmptyType, Line, is_untagged, joined}
-use Rattle.ris_text.proofs.Words.{continuation, after_continuation, Outcome, Inside, inside, Told, told, told_inner, ris_file, ris_line, ris_record, with_skipped, with_record, with_front, whole_record}
+use Rattle.ris_text.proofs.Words.{◌≡◌, ℕ, ◌+◌, ◌≤◌, Bool, true, false, [], ◌∷◌, ◌++◌, length, refl, sym, ap, ◌∙◌, arith, append_assoc, if◌then◌else◌, Ok, Err, Text, is_empty, Class, Begin, End, Known, Other, Blank, Untagged, RisLine, RisFault, EmptyType, Line, is_untagged, joined}
+use Rattle.ris_text.proofs.Words.{continuation, after_continuation, Outcome, Inside, inside, Told, told, told_inner, ris_line, ris_record, with_skipped, with_record, with_front, whole_record}
 use Rattle.std.proofs.Common.{List}
 use Rattle.ris_text.specs.Code.{told_by, record_told}
 

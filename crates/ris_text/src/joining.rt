@@ -1,6 +1,6 @@
 //! Values that continue over several lines.
 
-ghost use Rattle.std.specs.Prelude.{◌≡◌, ◌≤◌, [], ◌∷◌, length, IfOk};
+ghost use Rattle.std.specs.Prelude.{◌≡◌, [], ◌∷◌, IfOk};
 ghost use Rattle.ris_text.specs.Trees.{joined};
 ghost use Rattle.ris_text.specs.Code.{continuation, after_continuation};
 

@@ -1,6 +1,6 @@
 //! The lines of a file, one by one.
 
-ghost use Rattle.std.specs.Prelude.{◌≡◌, ◌≤◌, ◌<◌, ◌^◌, ◌==◌, [], ◌∷◌, not, length, take, drop, IfSome, IfNone};
+ghost use Rattle.std.specs.Prelude.{◌≡◌, ◌≤◌, ◌<◌, ◌==◌, [], ◌∷◌, not, length, drop, IfSome, IfNone};
 ghost use Rattle.std.specs.List.{prefix_len};
 ghost use Rattle.bib_spec.specs.Bytes.{line_feed};
 ghost use Rattle.ris_text.specs.Lines.{line_at, tag_line, plain_line, lines_of, mark_len, is_untagged};

@@ -1,7 +1,6 @@
 //! What each command answers to several files that are read as one.
 
-ghost use Rattle.std.specs.Prelude.{◌≡◌, true, List, length, ◌-◌, ◌≤◌, ◌<◌, IfOk};
-ghost use Rattle.bib_spec.specs.Reading.{Reading};
+ghost use Rattle.std.specs.Prelude.{◌≡◌, true, List, ◌-◌, ◌<◌, IfOk};
 ghost use Rattle.bib_spec.specs.Text.{Text as FileText};
 ghost use Rattle.bib_store.specs.Readings.{OfReading};
 ghost use Rattle.bib_words.specs.Command.{IsCommand, HasItsWords, has_others};
@@ -9,7 +8,6 @@ ghost use Rattle.bib_words.specs.declared.verbs.Question.TheVariants.{Json};
 ghost use Rattle.bib_words.specs.declared.verbs.Verb.TheVariants.{Names};
 ghost use Rattle.bib_words.specs.Verbs.{shape, question_shape, takes_others};
 ghost use Rattle.bib_shelf.specs.Joined.{AreJoined};
-ghost use Rattle.bib_answers.specs.declared.answers.Answer.{Answer};
 ghost use Rattle.bib_answers.specs.Names.{AnswersNames};
 ghost use Rattle.bib_run.specs.Answers.{key_word, template_word};
 ghost use Rattle.shelf_run.specs.Answers.{shelf_answer, AnswersShelf, ShelfAnswers, IsShelfAnswer};

@@ -1,6 +1,6 @@
 //! `lint` over several files.
 
-ghost use Rattle.std.specs.Prelude.{◌≡◌, ◌≤◌, ◌<◌, List, length, map, take, IfOk, IfErr, OnOk};
+ghost use Rattle.std.specs.Prelude.{◌≡◌, ◌<◌, List, map, IfOk, IfErr, OnOk};
 ghost use Rattle.bib_spec.specs.Text.{Text as FileText};
 ghost use Rattle.bib_shelf.specs.Joined.{AreJoined, files_in};
 ghost use Rattle.bib_shelf.specs.Faults.{AreAccepted, RefusesShelf};

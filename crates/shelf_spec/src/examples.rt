@@ -1,6 +1,5 @@
 //! What the definitions say of small files.
 
-ghost use Rattle.std.specs.Prelude.{codes};
 ghost use Rattle.shelf_spec.specs.Examples.{EarlierMacroIsSeen, LaterMacroIsUnseen, SeamPartsFiles};
 
 /// A use sees the macros of earlier files. No command is made of the bytes of two files.

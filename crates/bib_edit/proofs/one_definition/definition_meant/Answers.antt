@@ -1,4 +1,4 @@
-use Rattle.bib_edit.proofs.Words.{◌≡◌, ℕ, suc, Bool, sym, ◌∙◌, ap, arith, drop, defines, Item}
+use Rattle.bib_edit.proofs.Words.{◌≡◌, suc, Bool, sym, ◌∙◌, ap, arith, drop, defines, Item}
 use Rattle.bib_keys.proofs.Walks.{next-of}
 use Rattle.edit_spec.specs.Edits.{nth_of, definition_meant}
 use Rattle.bib_edit.proofs.NthWalks.{after, from_start, nth-found, nth-counted, nth-passed, nth-none}

@@ -1,5 +1,5 @@
-use Rattle.bib_edit.proofs.Words.{◌≡◌, ◌+◌, suc, List, ◌∙◌, sym, ap, arith, drop, [], ◌∷◌, both_ways, Piece, Item}
-use Rattle.edit_spec.specs.Edits.{ChangeDefinition, Undefines, is_used_before_next}
+use Rattle.bib_edit.proofs.Words.{◌≡◌, List, ◌∙◌, sym, ap, [], ◌∷◌, both_ways, Piece}
+use Rattle.edit_spec.specs.Edits.{ChangeDefinition, Undefines}
 use Rattle.bib_edit.specs.OneOfSeveral.{ArePiecesFor, IsAllowedFor}
 use Rattle.bib_edit.proofs.OpenFiles.{opens-as}
 use Rattle.bib_edit.proofs.MeantDefinitions.{definition-within}

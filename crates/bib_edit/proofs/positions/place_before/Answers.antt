@@ -1,4 +1,4 @@
-use Rattle.bib_edit.proofs.Words.{◌≡◌, ◌<◌, ℕ, Some, None, is_some, if◌then◌else◌, length, sym, ◌∙◌, ap, IfOk-weaker, OfReading, IsHolderFault, IsHeldAt}
+use Rattle.bib_edit.proofs.Words.{◌≡◌, ◌<◌, is_some, if◌then◌else◌, length, sym, ◌∙◌, ap, IfOk-weaker, OfReading, IsHolderFault, IsHeldAt}
 use Rattle.std.proofs.Common.{unwrap_or}
 use Rattle.std.proofs.lemmas.Result.{IfErr-weaker}
 use Rattle.edit_spec.specs.Edits.{Which, item_meant}

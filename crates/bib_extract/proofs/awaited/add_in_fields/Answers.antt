@@ -1,6 +1,6 @@
 use Rattle.std.proofs.Common.{List, refl, sym, subst}
 use Rattle.bib_scan.specs.View.{Field}
-use Rattle.bib_extract.specs.Awaited.{Map, GainsFrom, HaveValues}
+use Rattle.bib_extract.specs.Awaited.{GainsFrom, HaveValues}
 use Rattle.bib_extract.proofs.awaited.add_in_fields.Goals as goal
 
 pub fields-init : goal.fields-init

@@ -1,4 +1,4 @@
-use Rattle.std.proofs.Common.{◌+◌, ◌≤◌, length, arith}
+use Rattle.std.proofs.Common.{arith}
 use Rattle.bib_scan.specs.PartView.{part_view}
 use Rattle.bib_value.proofs.RawLemmas.{parts_counted}
 use Rattle.bib_extract.proofs.NamesAwaited.{only-is, part-is, gains-only, gained-begin, gained-part, gained-all}

@@ -1,8 +1,7 @@
-use Rattle.std.proofs.Common.{◌≡◌, ℕ, List, ◌++◌, ◌∙◌, sym, ap, subst}
+use Rattle.std.proofs.Common.{List, ◌++◌, ◌∙◌, ap, subst}
 use Rattle.std.specs.List.{flat_map}
-use Rattle.bib_spec.specs.Text.{Text}
 use Rattle.bib_spec.specs.Texts.{values_of}
-use Rattle.bib_scan.specs.View.{View, Field, fields_of}
+use Rattle.bib_scan.specs.View.{View, Field}
 use Rattle.extract_spec.specs.Extract.{names_in}
 use Rattle.bib_extract.specs.Awaited.{HasNames, GainsFrom}
 use Rattle.bib_extract.proofs.NamesAwaited.{tree-gains, names-gained, names-before}

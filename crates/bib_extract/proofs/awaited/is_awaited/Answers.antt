@@ -1,4 +1,4 @@
-use Rattle.std.proofs.Common.{◌≡◌, ◌∙◌, is_some, sym, ap, List}
+use Rattle.std.proofs.Common.{◌∙◌, is_some, sym, ap}
 use Rattle.bib_scan.specs.View.{View, field_seen}
 use Rattle.bib_extract.proofs.NamesAwaited.{defined-awaited, defined-some, some-copied}
 use Rattle.bib_extract.proofs.awaited.is_awaited.Goals as goal

@@ -1,4 +1,4 @@
-use Rattle.std.proofs.Common.{◌≡◌, ◌∙◌, sym, ap}
+use Rattle.std.proofs.Common.{◌∙◌, sym, ap}
 use Rattle.bib_scan.specs.View.{View}
 use Rattle.bib_extract.proofs.awaited.remove_defined.Goals as goal
 

@@ -1,4 +1,4 @@
-use Rattle.std.proofs.Common.{◌≡◌, ◌∙◌, sym, ap, List}
+use Rattle.std.proofs.Common.{◌∙◌, sym, ap}
 use Rattle.bib_scan.specs.View.{View, field_seen}
 use Rattle.bib_extract.proofs.NamesAwaited.{defined-gone}
 use Rattle.bib_extract.proofs.awaited.remove_first.Goals as goal

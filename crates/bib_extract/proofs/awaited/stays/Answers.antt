@@ -1,5 +1,5 @@
 use Rattle.bib_scan.specs.View.{View}
-use Rattle.std.proofs.Common.{◌≡◌, ◌∙◌, sym, ap}
+use Rattle.std.proofs.Common.{◌∙◌, sym, ap}
 use Rattle.bib_extract.proofs.NamesAwaited.{definition-stays}
 use Rattle.bib_extract.proofs.awaited.stays.Goals as goal
 

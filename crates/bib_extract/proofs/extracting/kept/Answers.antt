@@ -1,4 +1,4 @@
-use Rattle.std.proofs.Common.{◌≡◌, ℕ, Bool, List, length, filter, ◌∙◌, sym, ap, ap₂}
+use Rattle.std.proofs.Common.{Bool, List, length, filter, ◌∙◌, ap}
 use Rattle.std.specs.List.{range_with_len}
 use Rattle.extract_spec.specs.Extract.{kept, keeps_for}
 use Rattle.bib_extract.specs.Marks.{is_marked}

@@ -1,4 +1,4 @@
-use Rattle.std.proofs.Common.{◌≡◌, ℕ, ◌<◌, ◌≤◌, Bool, List, length, All, ◌∙◌, sym, ap, subst, arith}
+use Rattle.std.proofs.Common.{ℕ, ◌<◌, Bool, List, length, All, ◌∙◌, sym, ap, subst, arith}
 use Rattle.bib_spec.specs.Records.{entries_of, listed}
 use Rattle.extract_spec.specs.Extract.{keeps_for, is_kept_entry}
 use Rattle.extract_spec.proofs.ListedEntries.{kept_alike, listed_within}

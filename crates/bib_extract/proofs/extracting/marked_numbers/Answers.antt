@@ -1,4 +1,4 @@
-use Rattle.std.proofs.Common.{◌≡◌, ℕ, Bool, List, ◌++◌, ◌+◌, [], ◌∷◌, if◌then◌else◌, true, false, filter, refl, ◌∙◌, sym, ap, ap₂}
+use Rattle.std.proofs.Common.{◌≡◌, ℕ, Bool, List, ◌++◌, ◌+◌, [], ◌∷◌, if◌then◌else◌, filter, refl, ◌∙◌, sym, ap, ap₂}
 use Rattle.std.specs.List.{range_with_len}
 use Rattle.std.proofs.lemmas.List.Elements.{filter-append}
 use Rattle.bib_store.proofs.Citations.{range_more}

@@ -1,8 +1,7 @@
-use Rattle.std.proofs.Common.{◌≡◌, ℕ, zero, ◌+◌, ◌-◌, ◌<◌, ◌≤◌, Bool, List, true, false, Some, slice_get, length, replicate, drop, set, refl, sym, ◌∙◌, ap, subst, arith, zero-add, add-one}
+use Rattle.std.proofs.Common.{◌≡◌, ℕ, ◌+◌, ◌-◌, ◌<◌, ◌≤◌, Bool, List, true, false, Some, slice_get, length, drop, set, refl, sym, ◌∙◌, ap, subst, arith, zero-add, add-one}
 use Rattle.std.proofs.lemmas.List.{length-replicate}
 use Rattle.bib_spec.specs.Bytes.{name_limit}
-use Rattle.bib_spec.specs.Text.{Text, folded}
-use Rattle.bib_spec.specs.Tree.{IsTree}
+use Rattle.bib_spec.specs.Text.{Text}
 use Rattle.bib_spec.specs.Reading.{Item, IsItem, Reading, Reads}
 use Rattle.bib_spec.specs.Texts.{months}
 use Rattle.bib_spec.specs.Records.{entries_of}

@@ -1,6 +1,6 @@
-use Rattle.std.proofs.Common.{◌≡◌, ◌∙◌, sym, ap}
+use Rattle.std.proofs.Common.{◌∙◌, sym, ap}
 use Rattle.bib_scan.specs.View.{View}
-use Rattle.bib_extract.proofs.WalkedItems.{number-before_entry, number-before_other}
+use Rattle.bib_extract.proofs.WalkedItems.{number-before_entry}
 use Rattle.bib_extract.proofs.items.number_before.Goals as goal
 
 pub returns-in-Entry : goal.returns-in-Entry

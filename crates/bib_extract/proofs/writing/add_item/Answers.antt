@@ -1,4 +1,4 @@
-use Rattle.std.proofs.Common.{◌≡◌, ◌++◌, ◌∙◌, sym, ap, ap₂, append_assoc}
+use Rattle.std.proofs.Common.{◌++◌, ◌∙◌, ap, ap₂, append_assoc}
 use Rattle.bib_spec.specs.Text.{Text}
 use Rattle.bib_scan.specs.View.{View}
 use Rattle.extract_spec.specs.Extract.{space_of}

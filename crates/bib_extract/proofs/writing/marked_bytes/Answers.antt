@@ -1,4 +1,4 @@
-use Rattle.std.proofs.Common.{◌≡◌, ◌∙◌, ℕ, ◌<◌, Bool, List, Some, slice_get, length, subst, sym}
+use Rattle.std.proofs.Common.{◌∙◌, ◌<◌, subst}
 use Rattle.bib_extract.proofs.WrittenItems.{slice_get-within, got, written-more, written-all}
 use Rattle.bib_extract.proofs.writing.marked_bytes.Goals as goal
 

@@ -1,4 +1,4 @@
-use Rattle.std.proofs.Common.{Some, subst}
+use Rattle.std.proofs.Common.{subst}
 use Rattle.bib_definitions.specs.MacrosSeen.{macros_seen}
 use Rattle.bib_fields.specs.Versions.{MayBeVersion}
 use Rattle.bib_fields.proofs.MixChecked.{three-items}

@@ -1,4 +1,3 @@
-use Rattle.std.proofs.Common.{sym, ◌∙◌}
 use Rattle.bib_fields.proofs.ThreeForms.{or-first, or-second}
 use Rattle.bib_fields.proofs.of_three.is_ours.Goals as goal
 

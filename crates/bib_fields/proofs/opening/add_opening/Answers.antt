@@ -1,4 +1,4 @@
-use Rattle.std.proofs.Common.{◌∙◌, sym, ap}
+use Rattle.std.proofs.Common.{ap}
 use Rattle.bib_scan.specs.View.{View}
 use Rattle.bib_fields.proofs.Openings.{opening-written}
 use Rattle.bib_fields.proofs.opening.add_opening.Goals as goal

@@ -1,4 +1,4 @@
-use Rattle.std.proofs.Common.{ℕ, ◌+◌, ◌∙◌, ap, ap₂, drop}
+use Rattle.std.proofs.Common.{ℕ, ◌+◌, ◌∙◌, ap₂, drop}
 use Rattle.bib_spec.specs.Text.{Text}
 use Rattle.bib_fields.proofs.slices.after_rows.Goals as goal
 

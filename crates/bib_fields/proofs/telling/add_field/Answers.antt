@@ -1,4 +1,4 @@
-use Rattle.std.proofs.Common.{map, sym, ◌∙◌, ap}
+use Rattle.std.proofs.Common.{map, ◌∙◌, ap}
 use Rattle.bib_fields.specs.PartsSeen.{part_seen}
 use Rattle.bib_fields.proofs.Collected.{map-snoc}
 use Rattle.bib_fields.proofs.PartsTold.{told-one, told-none}

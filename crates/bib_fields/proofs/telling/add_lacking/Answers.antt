@@ -1,4 +1,4 @@
-use Rattle.std.proofs.Common.{map, sym, ◌∙◌}
+use Rattle.std.proofs.Common.{map, ◌∙◌}
 use Rattle.bib_fields.specs.PartsSeen.{part_seen}
 use Rattle.bib_fields.proofs.PartsTold.{none-of, lacks, told-lacking, told-having}
 use Rattle.bib_fields.proofs.telling.add_lacking.Goals as goal

@@ -1,11 +1,10 @@
-use Rattle.std.proofs.Common.{List, ◌++◌, take, map, filter, ap, ◌∙◌}
+use Rattle.std.proofs.Common.{List, ◌++◌, take, map, ap, ◌∙◌}
 use Rattle.std.proofs.lemmas.List.{take_all}
 use Rattle.bib_scan.specs.declared.fields.FieldView.{FieldView}
 use Rattle.bib_scan.specs.View.{field_seen}
-use Rattle.merge_spec.specs.Conflicts.{is_lacking}
 use Rattle.bib_sayings.specs.FieldTables.{names_of}
 use Rattle.bib_fields.specs.PartsSeen.{part_seen, told}
-use Rattle.bib_fields.proofs.PartsTold.{names-more, lacking-more, told-more}
+use Rattle.bib_fields.proofs.PartsTold.{names-more, told-more}
 use Rattle.bib_fields.proofs.telling.add_ours.Goals as goal
 
 pub fields-preserved : goal.fields-preserved

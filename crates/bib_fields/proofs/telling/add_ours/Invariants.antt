@@ -1,8 +1,7 @@
-use Rattle.std.proofs.Common.{◌≡◌, ◌++◌, take, map, filter}
+use Rattle.std.proofs.Common.{◌≡◌, ◌++◌, take, map}
 use Rattle.bib_spec.specs.Tree.{Entry}
 use Rattle.bib_spec.specs.Texts.{Macros}
 use Rattle.bib_scan.specs.View.{field_seen}
-use Rattle.merge_spec.specs.Conflicts.{is_lacking}
 use Rattle.bib_sayings.specs.FieldTables.{names_of}
 use Rattle.bib_fields.specs.Versions.{IsVersion}
 use Rattle.bib_fields.specs.PartsSeen.{part_seen, told}

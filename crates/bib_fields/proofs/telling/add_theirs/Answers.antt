@@ -5,7 +5,7 @@ use Rattle.bib_scan.specs.View.{field_seen}
 use Rattle.merge_spec.specs.Conflicts.{is_lacking}
 use Rattle.bib_sayings.specs.FieldTables.{names_of}
 use Rattle.bib_fields.specs.PartsSeen.{part_seen, told}
-use Rattle.bib_fields.proofs.PartsTold.{names-more, lacking-more, told-more}
+use Rattle.bib_fields.proofs.PartsTold.{lacking-more, told-more}
 use Rattle.bib_fields.proofs.telling.add_theirs.Goals as goal
 
 pub fields-preserved : goal.fields-preserved

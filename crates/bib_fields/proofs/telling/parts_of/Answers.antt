@@ -1,5 +1,4 @@
-use Rattle.std.proofs.Common.{List, map, ◌≡◌, ◌++◌, ◌∙◌, ap, subst}
-use Rattle.bib_spec.specs.Text.{Text}
+use Rattle.std.proofs.Common.{List, map, ◌∙◌, ap}
 use Rattle.bib_scan.specs.declared.fields.FieldView.{FieldView}
 use Rattle.bib_scan.specs.View.{field_seen}
 use Rattle.bib_sayings.specs.FieldTables.{names_of}

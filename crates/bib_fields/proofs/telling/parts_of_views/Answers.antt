@@ -1,4 +1,4 @@
-use Rattle.std.proofs.Common.{Some, List, map, sym, ◌∙◌, subst}
+use Rattle.std.proofs.Common.{map, ◌∙◌, subst}
 use Rattle.bib_definitions.specs.MacrosSeen.{macros_seen}
 use Rattle.bib_fields.specs.Versions.{MayBeVersion}
 use Rattle.bib_fields.specs.PartsSeen.{part_seen}

@@ -1,6 +1,5 @@
-use Rattle.std.proofs.Common.{List, ◌∙◌, ap, subst}
-use Rattle.bib_spec.specs.Tree.{EntryTree}
-use Rattle.bib_scan.specs.View.{View, Field}
+use Rattle.std.proofs.Common.{◌∙◌, ap, subst}
+use Rattle.bib_scan.specs.View.{View}
 use Rattle.bib_definitions.specs.MacrosSeen.{macros_seen}
 use Rattle.bib_sayings.specs.FieldTables.{IsTableFound}
 use Rattle.bib_fields.proofs.VersionsRead.{seen-fields, twice, once}

@@ -1,7 +1,3 @@
-use Rattle.std.proofs.Common.{◌++◌, take_all, map, sym, ◌∙◌, ap}
-use Rattle.bib_spec.specs.Text.{Text}
-use Rattle.std.specs.List.{flat_map}
-use Rattle.bib_spec.specs.Tree.{row_bytes}
 use Rattle.bib_fields.specs.MixSeen.{row_seen}
 use Rattle.bib_fields.proofs.Writings.{rows-more, rows-all}
 use Rattle.bib_fields.proofs.writing.add_rows.Goals as goal

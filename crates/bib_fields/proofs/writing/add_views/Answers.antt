@@ -1,4 +1,4 @@
-use Rattle.std.proofs.Common.{Some, subst}
+use Rattle.std.proofs.Common.{subst}
 use Rattle.bib_fields.specs.Sources.{MayBeSource}
 use Rattle.bib_fields.proofs.Sourced.{written-items}
 use Rattle.bib_fields.proofs.writing.add_views.Goals as goal

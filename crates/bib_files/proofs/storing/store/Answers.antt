@@ -1,10 +1,8 @@
-use Rattle.std.specs.Prelude.{Option}
 use Rattle.std.specs.Option.{option_copied}
-use Rattle.std.proofs.Common.{sym}
 use Rattle.std.proofs.lemmas.Result.{on_ok_weaker, on_err_weaker}
 use Rattle.bib_spec.specs.Text.{Text}
 use Rattle.bib_spec.proofs.Results.{err_always}
-use Rattle.bib_files.specs.Folders.{Files, Keeps}
+use Rattle.bib_files.specs.Folders.{Keeps}
 use Rattle.bib_files.specs.Storing.{PutsIf, MovesIf}
 use Rattle.bib_files.proofs.Stored.{then, weaker, at_path, with_old, kept_file, kept_journal, kept_both, written, written_keeps, puts_keeps, placed, file_alone, done, stored, unstored}
 use Rattle.bib_files.proofs.storing.store.Goals as goal

@@ -1,4 +1,4 @@
-use Rattle.std.proofs.Common.{Bool, List, [], ◌∷◌, if◌then◌else◌, sym, ◌∙◌, ap}
+use Rattle.std.proofs.Common.{Bool, [], ◌∷◌, if◌then◌else◌, sym, ◌∙◌, ap}
 use Rattle.bib_spec.specs.Text.{Text}
 use Rattle.bib_spec.specs.Records.{entries_of}
 use Rattle.merge_spec.specs.Parents.{key_at}

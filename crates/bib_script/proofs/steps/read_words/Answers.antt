@@ -1,4 +1,4 @@
-use Rattle.std.proofs.Common.{◌≡◌, sym, ◌∙◌, List, map, Some, subst, All}
+use Rattle.std.proofs.Common.{sym, ◌∙◌, List, map, subst, All}
 use Rattle.bib_data.specs.Depths.{AsksWithDepth}
 use Rattle.bib_data.specs.declared.request.Request.{Request}
 use Rattle.bib_script.proofs.Depths.{step-asks}

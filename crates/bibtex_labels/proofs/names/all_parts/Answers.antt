@@ -1,9 +1,9 @@
-use Rattle.std.proofs.Common.{◌≡◌, ◌∙◌, ℕ, List, Bor, map, sym, ap, arith}
+use Rattle.std.proofs.Common.{ℕ, List, Bor, map, sym, arith}
 use Rattle.std.proofs.lemmas.List.{get_or-map, length-map}
 use Rattle.std.proofs.lemmas.Result.{err_from_is_err_and}
 use Rattle.bib_spec.specs.Text.{Text}
 use Rattle.bibtex_names.specs.NamesInLists.{parts_in}
-use Rattle.bibtex_labels.proofs.AllLemmas.{after-none, all_more, all_stops, all_done}
+use Rattle.bibtex_labels.proofs.AllLemmas.{all_more, all_stops}
 use Rattle.bibtex_labels.proofs.names.all_parts.Goals as goal
 
 abbrev bytes_of : Bor (List ℕ) → Text

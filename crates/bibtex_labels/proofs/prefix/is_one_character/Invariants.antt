@@ -1,4 +1,4 @@
-use Rattle.std.proofs.Common.{◌≡◌, ◌≤◌, ◌<◌, ◌+◌, length}
+use Rattle.std.proofs.Common.{◌≡◌, ◌<◌, ◌+◌, length}
 use Rattle.bibtex_labels.specs.Pieces.{text_length}
 use Rattle.bibtex_labels.proofs.PieceLemmas.{characters}
 use Rattle.bibtex_labels.proofs.prefix.is_one_character.Given as goal

@@ -1,4 +1,4 @@
-use Rattle.bibtex_labels.proofs.CommandLemmas.{command_more, command_last}
+use Rattle.bibtex_labels.proofs.CommandLemmas.{command_more}
 use Rattle.bibtex_labels.proofs.purifying.push_commands.Goals as goal
 
 pub commands-preserved : goal.commands-preserved

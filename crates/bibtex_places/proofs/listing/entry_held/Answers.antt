@@ -1,4 +1,4 @@
-use Rattle.std.proofs.Common.{◌≡◌, ◌∙◌, ap, sym, ℕ, Option, map}
+use Rattle.std.proofs.Common.{◌∙◌, ap, sym, ℕ, Option}
 use Rattle.std.proofs.Math.Path.{fun_ext}
 use Rattle.bibtex_places.specs.Lists.{is_deep}
 use Rattle.bibtex_places.proofs.listing.entry_held.Goals as goal

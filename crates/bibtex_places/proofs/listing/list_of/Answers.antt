@@ -1,4 +1,4 @@
-use Rattle.std.proofs.Common.{◌≡◌, ◌∙◌, sym, subst, map, List}
+use Rattle.std.proofs.Common.{◌∙◌, sym, subst, map, List}
 use Rattle.bib_spec.specs.Text.{Text}
 use Rattle.bib_spec.specs.Records.{EntryTexts, keys_of}
 use Rattle.bibtex_spec.specs.Places.{Place}

@@ -1,4 +1,4 @@
-use Rattle.std.proofs.Common.{◌≡◌, ◌∙◌, sym, subst, length, refl, get_or}
+use Rattle.std.proofs.Common.{◌≡◌, sym, subst, length, refl, get_or}
 use Rattle.std.proofs.lemmas.Option.{slice_get_read}
 use Rattle.bib_spec.specs.Text.{Text}
 use Rattle.bibtex_places.proofs.UnknownKeys.{unknown_next, unknown_all}

@@ -1,4 +1,4 @@
-use Rattle.std.proofs.Common.{◌∙◌, ap, sym, option_and_then, arith, length, refl, map}
+use Rattle.std.proofs.Common.{◌∙◌, ap, option_and_then, arith, length}
 use Rattle.std.proofs.lemmas.List.{length-map}
 use Rattle.bibtex_spec.specs.Listed.{place_named}
 use Rattle.bibtex_places.specs.Seen.{seen}

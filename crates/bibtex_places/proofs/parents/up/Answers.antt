@@ -1,5 +1,4 @@
-use Rattle.std.proofs.Common.{◌≡◌, ◌≤◌, ◌+◌, ◌∙◌, ℕ, ap, sym, subst, arith, List, ◌++◌, ◌∷◌, [], length, is_some, Option}
-use Rattle.bibtex_spec.specs.Listed.{up}
+use Rattle.std.proofs.Common.{◌+◌, ◌∙◌, ℕ, ap, sym, subst, arith, List, length, is_some, Option}
 use Rattle.bibtex_places.specs.Parents.{parent_in}
 use Rattle.bibtex_places.proofs.Runs.{IsWalk, walk_start, walk_more, walk_last, walk_none, not_deep, deep, no_parent}
 use Rattle.bibtex_places.proofs.parents.up.Goals as goal

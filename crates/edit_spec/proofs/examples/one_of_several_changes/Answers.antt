@@ -1,4 +1,4 @@
-use Rattle.edit_spec.proofs.Words.{refl, arith, months, field_text, is_space, is_name_byte, is_new_key_byte, is_name_within, is_new_key}
+use Rattle.edit_spec.proofs.Words.{refl, months, field_text, is_space, is_name_byte, is_new_key_byte, is_name_within, is_new_key}
 use Rattle.edit_spec.proofs.examples.one_of_several_changes.Goals as goal
 
 pub returns : goal.returns

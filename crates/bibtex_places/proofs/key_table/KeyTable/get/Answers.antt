@@ -2,7 +2,7 @@ use Rattle.std.proofs.Common.{◌∙◌, ap, sym}
 use Rattle.bib_spec.specs.Text.{folded}
 use Rattle.folded_map.specs.FoldedMap.{value_at}
 use Rattle.folded_map.proofs.Entries.{value_at-get}
-use Rattle.bibtex_places.specs.KeyTables.{Numbers, number_of}
+use Rattle.bibtex_places.specs.KeyTables.{Numbers}
 use Rattle.bibtex_places.proofs.Numbers.{long_number}
 use Rattle.bibtex_places.proofs.key_table.KeyTable.get.Goals as goal
 

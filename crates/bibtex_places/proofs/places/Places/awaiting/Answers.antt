@@ -1,7 +1,5 @@
-use Rattle.std.proofs.Common.{◌≡◌, ◌∙◌, ap, sym, arith, map, Some, List}
-use Rattle.bibtex_spec.specs.Places.{Place}
+use Rattle.std.proofs.Common.{◌∙◌, ap, sym, arith}
 use Rattle.bibtex_spec.specs.Listed.{place_with}
-use Rattle.bibtex_places.specs.Seen.{seen}
 use Rattle.bibtex_places.specs.Steps.{awaiting}
 use Rattle.bibtex_places.proofs.KeptPlaces.{kept_within, awaiting_some, awaiting_none}
 use Rattle.bibtex_places.proofs.places.Places.awaiting.Goals as goal

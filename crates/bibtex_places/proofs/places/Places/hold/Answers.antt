@@ -1,4 +1,4 @@
-use Rattle.std.proofs.Common.{◌∙◌, ap, sym, arith, map}
+use Rattle.std.proofs.Common.{◌∙◌, ap, arith}
 use Rattle.bibtex_spec.specs.Places.{taken}
 use Rattle.bibtex_spec.specs.Listed.{place_with}
 use Rattle.bibtex_places.proofs.KeptPlaces.{kept_within, held_set, finds_held}

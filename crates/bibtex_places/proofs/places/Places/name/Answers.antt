@@ -1,4 +1,4 @@
-use Rattle.std.proofs.Common.{◌≡◌, ◌++◌, ◌∷◌, [], ◌∙◌, ap, sym, subst, arith, map, List}
+use Rattle.std.proofs.Common.{◌++◌, ◌∷◌, [], ◌∙◌, ap, sym, subst, arith, List}
 use Rattle.bib_spec.specs.Text.{Text}
 use Rattle.bibtex_spec.specs.Places.{Place, named_place, named}
 use Rattle.bibtex_spec.specs.Listed.{place_with}

@@ -1,4 +1,4 @@
-use Rattle.std.proofs.Common.{◌≡◌, ◌++◌, ◌∷◌, [], ◌∙◌, ap, sym, length, refl, List}
+use Rattle.std.proofs.Common.{◌++◌, ◌∷◌, [], ◌∙◌, ap, length, refl}
 use Rattle.std.proofs.lemmas.Option.{slice_get_read}
 use Rattle.bib_spec.specs.Text.{Text}
 use Rattle.bibtex_spec.specs.Places.{cited_place}

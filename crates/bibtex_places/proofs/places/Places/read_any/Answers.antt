@@ -1,4 +1,4 @@
-use Rattle.std.proofs.Common.{◌≡◌, ◌++◌, ◌∷◌, [], ◌∙◌, ap, sym, arith, map, List}
+use Rattle.std.proofs.Common.{◌++◌, ◌∷◌, [], ◌∙◌, ap, sym, arith}
 use Rattle.bibtex_spec.specs.Places.{Place}
 use Rattle.bibtex_spec.specs.Listed.{place_with}
 use Rattle.bibtex_places.specs.Steps.{awaiting}

@@ -1,7 +1,6 @@
-use Rattle.std.proofs.Common.{◌≡◌, ◌+◌, ◌∙◌, ap, sym, subst, List}
+use Rattle.std.proofs.Common.{◌+◌, ◌∙◌, ap, sym, subst, List}
 use Rattle.std.specs.Option.{option_copied}
 use Rattle.bibtex_spec.specs.Places.{Place, named}
-use Rattle.bibtex_spec.specs.Listed.{place_with}
 use Rattle.bibtex_places.specs.Steps.{CountsAtMost}
 use Rattle.bibtex_places.proofs.ReadSteps.{read_kept, read_taken, read_named, counts_one, counts_one_named, counts_of_held}
 use Rattle.bibtex_places.proofs.places.Places.read_entry.Goals as goal
