@@ -20,83 +20,68 @@ edit() {
 }
 
 given_edit '@misc{a, t = 1,}' 'set\ta\ty\t{2}\ndrop\ta\tq\nset\ta\tz\t3\n'
-given wanted 'applied 1\n'
-edit; ends_with 1; writes wanted; says 'bibkeep: line 2: 35 NotFound'; leaves '@misc{a, t = 1,\n  y = {2},}'
+edit; ends_with 1; prints 'applied 1\n'; says 'bibkeep: line 2: 35 NotFound'; leaves '@misc{a, t = 1,\n  y = {2},}'
 given_edit '@misc{a, t = 1,}' 'set\ta\ty\t{2}\nset\tb\tq\t1\nset\ta\tz\t3\n'
-given wanted 'applied 1\n'
-edit; ends_with 1; writes wanted; says 'bibkeep: line 2: 35 NotFound'; leaves '@misc{a, t = 1,\n  y = {2},}'
+edit; ends_with 1; prints 'applied 1\n'; says 'bibkeep: line 2: 35 NotFound'; leaves '@misc{a, t = 1,\n  y = {2},}'
 given_edit '@misc{a, t = 1,}' 'set\tb\tq\t1\nset\ta\ty\t{2}\n'
-given wanted 'applied 0\n'
-edit; ends_with 1; writes wanted; says 'bibkeep: line 1: 35 NotFound'; leaves '@misc{a, t = 1,}'
+edit; ends_with 1; prints 'applied 0\n'; says 'bibkeep: line 1: 35 NotFound'; leaves '@misc{a, t = 1,}'
 given_edit '@misc{a}\n@misc{b}\n' 'add\t1\tbook\tc\ttitle\t{T}\r\n\nremove\ta\nmove\tc\t1'
-given wanted 'applied 3\n'
-edit; ends_with 0; writes wanted; says_nothing; leaves '\n\n@misc{b}\n@book{c,\n  title = {T}\n}\n'
+edit; ends_with 0; prints 'applied 3\n'; says_nothing; leaves '\n\n@misc{b}\n@book{c,\n  title = {T}\n}\n'
 given_edit 'x@misc{a}' ''
-given wanted 'applied 0\n'
-edit; ends_with 0; writes wanted; says_nothing; leaves 'x@misc{a}'
+edit; ends_with 0; prints 'applied 0\n'; says_nothing; leaves 'x@misc{a}'
 given_edit '@misc{a}' 'undo\n'
-given wanted 'applied 0\n'
-edit; ends_with 1; writes wanted; says 'bibkeep: line 1: 71 BadScript'; leaves '@misc{a}'
+edit; ends_with 1; prints 'applied 0\n'; says 'bibkeep: line 1: 71 BadScript'; leaves '@misc{a}'
 given_edit '@misc{a}' 'set\ta\tt\t1\n\nmove\ta\t1234567890\nremove\ta\n'
-given wanted 'applied 1\n'
-edit; ends_with 1; writes wanted; says 'bibkeep: line 3: 71 BadScript'; leaves '@misc{a,\n  t = 1}'
+edit; ends_with 1; prints 'applied 1\n'; says 'bibkeep: line 3: 71 BadScript'; leaves '@misc{a,\n  t = 1}'
 given_edit '@misc{a b}' 'remove\ta\n'
 edit; ends_with 1; writes_nothing; says 'bibkeep: 4 ExpectedCommaOrClose at 8'; leaves '@misc{a b}'
 given_edit '@misc{a}' ''
 cp too_long.bib script
 edit; ends_with 1; writes_nothing; says 'bibkeep: 9 FileTooLong at 16777216'; leaves '@misc{a}'
 given_edit '@inproceedings{c, crossref = {p}}@proceedings{p}' 'remove\tp'
-given wanted 'applied 0\n'
-edit; ends_with 1; writes wanted; says 'bibkeep: line 1: 39 Referred'
+edit; ends_with 1; prints 'applied 0\n'; says 'bibkeep: line 1: 39 Referred'
 given_edit '' 'remove\tp\n'
 cp parents.bib edited.bib
-edit; ends_with 1; writes wanted; says 'bibkeep: line 1: 39 Referred'
+edit; ends_with 1; prints 'applied 0\n'; says 'bibkeep: line 1: 39 Referred'
 expect 'the file is another one' cmp -s parents.bib edited.bib
 
 # An edit sees the crossrefs that the edits before it left.
 given_edit '@misc{c}@misc{p}@misc{q}' 'set\tc\tcrossref\t{P}\nremove\tp'
-given wanted 'applied 1\n'
-edit; ends_with 1; writes wanted; says 'bibkeep: line 2: 39 Referred'; leaves '@misc{c,\n  crossref = {P}}@misc{p}@misc{q}'
+edit; ends_with 1; prints 'applied 1\n'; says 'bibkeep: line 2: 39 Referred'; leaves '@misc{c,\n  crossref = {P}}@misc{p}@misc{q}'
 given_edit '@misc{c, crossref = {p}}@misc{p}@misc{q}' 'set\tc\tcrossref\t{q}\nremove\tp\nremove\tq'
-given wanted 'applied 2\n'
-edit; ends_with 1; writes wanted; says 'bibkeep: line 3: 39 Referred'; leaves '@misc{c, crossref = {q}}@misc{q}'
+edit; ends_with 1; prints 'applied 2\n'; says 'bibkeep: line 3: 39 Referred'; leaves '@misc{c, crossref = {q}}@misc{q}'
 given_edit '@misc{c, crossref = {p}}@misc{p}' 'drop\tc\tcrossref\nremove\tp'
-given wanted 'applied 2\n'
-edit; ends_with 0; writes wanted; says_nothing; leaves '@misc{c}'
+edit; ends_with 0; prints 'applied 2\n'; says_nothing; leaves '@misc{c}'
 
 # An entry gets another type, written as in the line; the white space around the old one stays.
-given wanted 'applied 1\n'
 given_edit 'x@Misc {a, t = 1}' 'set-type\tA\tArticle'
-edit; ends_with 0; writes wanted; says_nothing; leaves 'x@Article {a, t = 1}'
+edit; ends_with 0; prints 'applied 1\n'; says_nothing; leaves 'x@Article {a, t = 1}'
 given_edit '@ \n\tmisc(a , t = jan)@misc{b, crossref = {a}}' 'set-type\ta\tbook'
-edit; ends_with 0; writes wanted; says_nothing; leaves '@ \n\tbook(a , t = jan)@misc{b, crossref = {a}}'
+edit; ends_with 0; prints 'applied 1\n'; says_nothing; leaves '@ \n\tbook(a , t = jan)@misc{b, crossref = {a}}'
 given_edit '@misc{}@misc{a}' 'set-type\ta\ta.b-c'
-edit; ends_with 0; writes wanted; says_nothing; leaves '@misc{}@a.b-c{a}'
+edit; ends_with 0; prints 'applied 1\n'; says_nothing; leaves '@misc{}@a.b-c{a}'
 given_edit '@misc{a}' 'set-type\ta\tmisc'
-edit; ends_with 0; writes wanted; says_nothing; leaves '@misc{a}'
-given wanted 'applied 0\n'
+edit; ends_with 0; prints 'applied 1\n'; says_nothing; leaves '@misc{a}'
 for type in string Preamble COMMENT 1a 'a b' a@b a{ ''; do
     given_edit '@misc{a}' "set-type\\ta\\t$type"
-    edit; ends_with 1; writes wanted; says 'bibkeep: line 1: 32 BadName'; leaves '@misc{a}'
+    edit; ends_with 1; prints 'applied 0\n'; says 'bibkeep: line 1: 32 BadName'; leaves '@misc{a}'
 done
 given_edit '@misc{a}' 'set-type\tb\tstring'
-edit; ends_with 1; writes wanted; says 'bibkeep: line 1: 32 BadName'
+edit; ends_with 1; prints 'applied 0\n'; says 'bibkeep: line 1: 32 BadName'
 given_edit '@misc{a}' 'set-type\tb\tbook'
-edit; ends_with 1; writes wanted; says 'bibkeep: line 1: 35 NotFound'
+edit; ends_with 1; prints 'applied 0\n'; says 'bibkeep: line 1: 35 NotFound'
 given_edit '@misc{a}@misc{A}' 'set-type\ta\tbook'
-edit; ends_with 1; writes wanted; says 'bibkeep: line 1: 36 Ambiguous'
+edit; ends_with 1; prints 'applied 0\n'; says 'bibkeep: line 1: 36 Ambiguous'
 given_edit '@misc{a}' 'set-type\ta'
-edit; ends_with 1; writes wanted; says 'bibkeep: line 1: 71 BadScript'
+edit; ends_with 1; prints 'applied 0\n'; says 'bibkeep: line 1: 71 BadScript'
 given_edit '@misc{a}' 'set-type\ta\tbook\tx'
-edit; ends_with 1; writes wanted; says 'bibkeep: line 1: 71 BadScript'
+edit; ends_with 1; prints 'applied 0\n'; says 'bibkeep: line 1: 71 BadScript'
 
 # A number tells which of several entries, fields or definitions is meant.
-given wanted 'applied 5\n'
 given_edit '@string{p={A}}@misc{a,t=p}@string{P={B}}@misc{A,t=p}@misc{c,crossref={a}}' 'set\ta,2\tt\t1\nset-macro\tp,1\t{C}\nundefine\tp,2\nrename-key\ta,1\tb\nmove\ta,1\tafter:b\n'
-edit; ends_with 0; writes wanted; says_nothing; leaves '@string{p={C}}@misc{b,t=p}@misc{A,t=1}\n@misc{c,crossref={b}}'
-given wanted 'applied 3\n'
+edit; ends_with 0; prints 'applied 5\n'; says_nothing; leaves '@string{p={C}}@misc{b,t=p}@misc{A,t=1}\n@misc{c,crossref={b}}'
 given_edit '@misc{a,t=1,t=2}@misc{a}@misc{a}' 'drop\ta,1\tt,2\nremove\ta,3\nremove\ta,2\nremove\ta,2'
-edit; ends_with 1; writes wanted; says 'bibkeep: line 4: 35 NotFound'; leaves '@misc{a,t=1}'
+edit; ends_with 1; prints 'applied 3\n'; says 'bibkeep: line 4: 35 NotFound'; leaves '@misc{a,t=1}'
 
 # Each edit of the second of a name, and an undo of it.
 macros='@string{m = {one}}\n@string{M = {two}}\n'
@@ -171,8 +156,7 @@ when undo edited.bib --steps 3; ends_with 0; prints 'undone 3\n'; leaves "$macro
 # Only the line that was asked for differs.
 given_edit '@string{m = 1}\n@Article( a ,\n\tT = {x}  # m,\n  y="z" ,\n)\ntail @ end\n' 'set\tA\ty\t{w}\n'
 cp edited.bib before.bib
-given wanted 'applied 1\n'
-edit; ends_with 0; writes wanted; says_nothing
+edit; ends_with 0; prints 'applied 1\n'; says_nothing
 when_shell_runs 'diff -U 0 before.bib edited.bib | grep -c "^[-+][^-+]"'; prints '2\n'
 
 # The file keeps its permissions, and a symbolic link its place.
@@ -181,30 +165,26 @@ chmod 640 edited.bib
 mkdir -p elsewhere
 mv edited.bib elsewhere/real.bib
 ln -s elsewhere/real.bib edited.bib
-given wanted 'applied 1\n'
-edit; ends_with 0; writes wanted; says_nothing; leaves '@misc{a,\n  t = 1}'
-when_shell_runs 'test -h edited.bib && stat -c %a elsewhere/real.bib && ls elsewhere'; given wanted '640\nreal.bib\nreal.bib.bibkeep\n'; writes wanted
+edit; ends_with 0; prints 'applied 1\n'; says_nothing; leaves '@misc{a,\n  t = 1}'
+when_shell_runs 'test -h edited.bib && stat -c %a elsewhere/real.bib && ls elsewhere'; prints '640\nreal.bib\nreal.bib.bibkeep\n'
 rm edited.bib
 
 # What an earlier run left over is no hindrance.
 given_edit '@misc{a}' 'set\ta\tt\t1\n'
 given edited.bib.bibkeep-new 'left over'
-given wanted 'applied 1\n'
-edit; ends_with 0; writes wanted; says_nothing; leaves '@misc{a,\n  t = 1}'
+edit; ends_with 0; prints 'applied 1\n'; says_nothing; leaves '@misc{a,\n  t = 1}'
 when_shell_runs 'test ! -e edited.bib.bibkeep-new'; ends_with 0
 given_edit '@misc{a}' 'set\ta\tt\t1\n'
 given other 'another file'
 ln -s other edited.bib.bibkeep-new
-given wanted 'applied 1\n'
-edit; ends_with 0; writes wanted; says_nothing; leaves '@misc{a,\n  t = 1}'
-when_shell_runs 'test ! -h edited.bib && cat other'; given wanted 'another file'; writes wanted
+edit; ends_with 0; prints 'applied 1\n'; says_nothing; leaves '@misc{a,\n  t = 1}'
+when_shell_runs 'test ! -h edited.bib && cat other'; prints 'another file'
 
 # As many changes are kept as can be undone.
 limit_script() {
     given_edit '@misc{a, t = 1,}' ''
     { yes "$(printf 'set\ta\tt\t1')" | head -n 65535; printf "$1"; } >script
-    given wanted 'applied 65535\n'
-    edit; ends_with 1; writes wanted; says "bibkeep: line 65536: $2"; leaves '@misc{a, t = 1,}'
+    edit; ends_with 1; prints 'applied 65535\n'; says "bibkeep: line 65536: $2"; leaves '@misc{a, t = 1,}'
 }
 limit_script 'set\ta\tt\t1\n' '41 JournalFull'
 limit_script 'set\ta\tt\t{x\n' '33 BadValue'
