@@ -13,7 +13,7 @@ use Rattle.bib_spec.specs.Texts.{field_text, part_text, raw_text}
 use Rattle.bib_persons.specs.Persons.{is_comma_byte, has_names, refused_names}
 use Rattle.bib_persons.proofs.Counts.{count-cons, count-append, count-field_text}
 use Rattle.bib_answers.specs.declared.warnings.Warning.TheVariants.{ManyCommas}
-use Rattle.bib_answers.specs.Lint.{found, is_use, has_uses, encoding_findings, text_findings, own_findings}
+use Rattle.bib_answers.specs.Lint.{found, is_use, has_uses, encoding_findings, field_encoding_findings, text_findings, own_findings}
 use Rattle.bib_answers.specs.Plain.{is_other}
 
 ascii_of : (t : Text) → count_by is_other t ≡ 0 → IsAscii t
@@ -41,6 +41,13 @@ plain_text field raw name all few =
     no_names : (named : Bool) → (named ≡ true → refused_names (field_text raw) ≡ []) → (cond named (flat_map (found ManyCommas field.value_at) (refused_names (field_text raw))) [] ++ []) ≡ []
     no_names true none = ap (λ (names : List Text). flat_map (found ManyCommas field.value_at) names ++ []) (none refl)
     no_names false none = refl
+
+-- nothing is found in the encoding of a field whose name and text are ASCII
+pub plain_field_encoding : (field : Field) (text : Text) → count_by is_other field.name ≡ 0 → count_by is_other text ≡ 0 → field_encoding_findings field text ≡ []
+plain_field_encoding field text name all =
+    let spelled : is_utf8 field.name ≡ true = utf8_of field.name name in
+    let said : is_utf8 text ≡ true = utf8_of text all in
+    rw (spelled, said) refl
 
 -- nothing is found in the encoding of a type and a key that are ASCII
 pub plain_encoding : (at : ℕ) (type_name key : Text) → count_by is_other type_name ≡ 0 → count_by is_other key ≡ 0 → encoding_findings at type_name key ≡ []
@@ -87,6 +94,13 @@ value_within p macros v none =
     let said = count-append p (part_text macros v.first) (flat_map (part_text macros) (map (λ (l : Link). l.part) v.links)) in
     let whole = count-append p (part_bytes v.first) (flat_map link_bytes v.links) in
     omega (arith, links, one, said, whole)
+
+-- the text of a value that uses no macro and whose bytes are ASCII
+pub plain_said : (macros : Macros) (v : Value) → has_uses v ≡ false → count_by is_other (value_bytes v) ≡ 0 → count_by is_other (field_text (raw_text macros v)) ≡ 0
+plain_said macros v none value =
+    let most = value_within is_other macros v none in
+    let less = count-field_text is_other (raw_text macros v) refl in
+    omega (arith, most, less, value)
 
 -- nothing is found in a field of an entry whose name and value are ASCII, unless it is a list of names
 pub plain_own : (field : Field) (macros : Macros) (v : Value) → count_by is_other field.name ≡ 0 → count_by is_other (value_bytes v) ≡ 0

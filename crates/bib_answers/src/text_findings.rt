@@ -45,7 +45,7 @@ pub fn add_own_findings<M: MacroTable>(
         return Ok(());
     }
     let text = value_text(alloc, macros, field.value)?;
-    add_findings_in(alloc, lines, field, text.as_slice())
+    add_findings_in(alloc, lines, field, text.as_slice(), ascii)
 }
 
 /// Whether a value uses a macro.
@@ -86,29 +86,36 @@ fn is_use(part: Part<'_>) -> bool
     }
 }
 
-/// Adds what is found in a field with this text.
+/// Adds what is found in a field with this text. If the two are known to be ASCII, they are not read for that.
 fn add_findings_in(
     alloc: Global,
     lines: &mut FindingLines<'_>,
     field: FieldView<'_>,
     text: &[u8],
+    ascii: bool,
 ) -> Result<(), AllocError>
+    requires { ascii ≡ true → (count_by is_other field.name.now ≡ 0) × (count_by is_other text.now ≡ 0) }
     ensures { OnOk result (lines.new ≡ with_findings lines.old (text_findings (field_seen field.entry) text.now)) }
 {
     if has_names(field.name) {
         add_refused_in(alloc, lines, field.value_at, text)?;
     }
-    add_field_encoding(lines, field, text)
+    add_field_encoding(lines, field, text, ascii)
 }
 
-/// Adds that the name or the text of a field is not UTF-8.
+/// Adds that the name or the text of a field is not UTF-8. If the two are known to be ASCII, they are not read for that.
 fn add_field_encoding(
     lines: &mut FindingLines<'_>,
     field: FieldView<'_>,
     text: &[u8],
+    ascii: bool,
 ) -> Result<(), AllocError>
+    requires { ascii ≡ true → (count_by is_other field.name.now ≡ 0) × (count_by is_other text.now ≡ 0) }
     ensures { OnOk result (lines.new ≡ with_findings lines.old (field_encoding_findings (field_seen field.entry) text.now)) }
 {
+    if ascii {
+        return Ok(());
+    }
     if is_utf8(field.name) && is_utf8(text) {
         return Ok(());
     }

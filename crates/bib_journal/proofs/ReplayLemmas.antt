@@ -1,6 +1,10 @@
 -- Steps of a journal, gone over one by one.
-use Rattle.bib_journal.proofs.Words.{◌≡◌, ℕ, ◌+◌, ◌<◌, List, [], ◌∷◌, ◌++◌, length, drop, get_or, sym, ◌∙◌, ap, subst, refl, drop_more, Text, Piece, Fit, applied, reversed, IsOpenable, Step, before, first_of, IsAllowed, Leads, LeadTo, LeadOn, fit_back, lead_to_pop, steps-lead-back, last_of}
+use Rattle.bib_journal.proofs.Words.{◌≡◌, ℕ, ◌+◌, ◌<◌, ◌≤◌, List, [], ◌∷◌, ◌++◌, length, take, drop, zero, suc, get_or, sym, ◌∙◌, ap, subst, refl, arith, drop_more, take_more, Text, Piece, Fit, applied, reversed, IsOpenable, Step, before, first_of, IsAllowed, Leads, LeadTo, LeadOn, fit_back, lead_to_pop, steps-lead-back, last_of, AreTurnable}
+use Rattle.std.proofs.Common.{◌-◌, Some, slice_get, length-take}
+use Rattle.std.proofs.lemmas.Option.{get_or_from_slice_get}
+use Rattle.std.proofs.lemmas.List.{drop-append-le, drop_all, take_all}
 use Rattle.bib_spec.specs.Pieces.{IsAscending}
+use Rattle.bib_journal.specs.Loading.{IsTurnable}
 use Rattle.bib_spec.proofs.WayBack.{applied-reversed, reversed-reversed}
 use Rattle.history_spec.proofs.StepLemmas.{first_of-push, lead_to_push, before-made}
 
@@ -60,6 +64,63 @@ none_gone_on steps first f = record { there = λ w. w; here = λ w. w; last = re
 
 next_step : (steps : List Step) (i : ℕ) (s : Step) → i < length steps → s ≡ get_or steps i s → drop i steps ≡ s ∷ drop (i + 1) steps
 next_step steps i s h e = drop_more steps i s h ∙ ap (λ (x : Step). x ∷ drop (i + 1) steps) (sym e)
+
+pub one_gone_on : (steps : List Step) (i : ℕ) (first now new : Text) (s : Step) → AreGoneOn steps i first now → i < length steps → s ≡ get_or steps i s
+    → IsAllowed s.pieces now → new ≡ applied s.pieces now → AreGoneOn steps (i + 1) first new
+one_gone_on steps i first now new s g h is a e =
+    let next : drop i steps ≡ s ∷ drop (i + 1) steps = next_step steps i s h is in
+    let leads : Leads s.pieces now (applied s.pieces now) = record { fit = a.fit; made = refl; old_is_file = g.is_file; new_is_file = a.made } in
+    record {
+      there = λ w. subst (λ (f : Text). LeadOn (drop (i + 1) steps) f) (sym e) ((subst (λ (ss : List Step). LeadOn ss now) next (g.there w)).1);
+      here = λ w. g.here (subst (λ (ss : List Step). LeadOn ss now) (sym next) (leads, subst (λ (f : Text). LeadOn (drop (i + 1) steps) f) e w));
+      last = ap (last_of (drop (i + 1) steps)) e ∙ sym (ap (λ (ss : List Step). last_of ss now) next) ∙ g.last;
+      is_file = subst IsOpenable (sym e) a.made;
+    }
+
+-- a step that is not allowed here refuses them all
+pub stuck_on : (steps : List Step) (i : ℕ) (first now : Text) (s : Step) → AreGoneOn steps i first now → i < length steps → s ≡ get_or steps i s
+    → (IsAllowed s.pieces now → ⊥) → LeadOn steps first → ⊥
+stuck_on steps i first now s g h is stuck w =
+    let leads : Leads s.pieces now (applied s.pieces now) = (subst (λ (ss : List Step). LeadOn ss now) (next_step steps i s h is) (g.there w)).0 in
+    stuck (record { fit = leads.fit; made = leads.new_is_file })
+
+pub all_gone_on : (steps : List Step) (i : ℕ) (first now : Text) → AreGoneOn steps i first now → length steps ≤ i → LeadOn steps first × (now ≡ last_of steps first)
+all_gone_on steps i first now g h =
+    let none : drop i steps ≡ [] = drop_all i steps h in
+    (g.here (subst (λ (ss : List Step). LeadOn ss now) (sym none) tt), sym (ap (λ (ss : List Step). last_of ss now) none) ∙ g.last)
+
+-- ---- back, over a part of the steps
+
+-- one step more at the end of a part
+pub part_pop : (steps : List Step) (from n : ℕ) (s : Step) → from ≤ n → n < length steps → s ≡ get_or steps n s → drop from (take (n + 1) steps) ≡ drop from (take n steps) ++ s ∷ []
+part_pop steps from n s after within is =
+    ap (drop from) (take_more steps n s within ∙ ap (λ (x : Step). take n steps ++ x ∷ []) (sym is))
+    ∙ drop-append-le from (take n steps) (s ∷ []) (omega (arith, after, within, length-take n steps))
+
+-- no step is left
+pub part_none : (steps : List Step) (from n : ℕ) → n ≤ from → drop from (take n steps) ≡ []
+part_none steps from n h = drop_all from (take n steps) (omega (arith, h, length-take n steps))
+
+-- the part of all steps
+pub part_all : (steps : List Step) (n : ℕ) → n ≡ length steps → drop 0 (take n steps) ≡ steps
+part_all steps n all = take_all n steps (omega (arith, all))
+
+pub turnable_at : (steps : List Step) (n : ℕ) (d : Step) → AreTurnable steps → n < length steps → IsTurnable (get_or steps n d).pieces
+turnable_at [] n d h within = absurd (omega (arith, within))
+turnable_at (s ∷ ss) zero d h within = h.0
+turnable_at (s ∷ ss) (suc n) d h within = turnable_at ss n d h.1 (omega (arith, within))
+
+-- the last step of a part
+pub part_last : (steps : List Step) (from n : ℕ) (s : Step) → from < n → n ≤ length steps → slice_get steps (n - 1) ≡ Some s
+    → drop from (take n steps) ≡ drop from (take (n - 1) steps) ++ s ∷ []
+part_last steps from n s after within is =
+    let next : n ≡ n - 1 + 1 = omega (arith, after) in
+    ap (λ (k : ℕ). drop from (take k steps)) next
+    ∙ part_pop steps from (n - 1) s (omega (arith, after)) (omega (arith, after, within)) (sym (get_or_from_slice_get steps (n - 1) s s is))
+
+pub turnable_there : (steps : List Step) (n : ℕ) (s : Step) (pieces : List Piece) → AreTurnable steps → n < length steps → slice_get steps n ≡ Some s → pieces ≡ s.pieces → IsTurnable pieces
+turnable_there steps n s pieces h within is same =
+    subst IsTurnable (sym (same ∙ ap (λ (t : Step). t.pieces) (sym (get_or_from_slice_get steps n s s is)))) (turnable_at steps n s h within)
 
 -- ---- there and back
 

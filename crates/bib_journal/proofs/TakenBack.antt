@@ -1,7 +1,7 @@
 -- Changes that are taken back at once.
 use Rattle.bib_journal.proofs.Words.{◌≡◌, ℕ, ◌+◌, ◌-◌, ◌≤◌, ◌<◌, List, [], ◌∷◌, ◌++◌, length, take, drop, min, replicate, suc, ◌≢◌, ⊎_elim, Option, Some, None, refl, sym, ◌∙◌, ap, subst, arith, length-replicate, take-replicate, Text, Undoes, Step, KeptSteps, before, first_of, Leads, LeadTo, IsSound}
 use Rattle.bib_journal.proofs.Words.{GoesBack, history_of, going-back-undoes, Contents, IsDigest, digest_of, journal_text, Request, SessionFault, NothingToUndo, Memory, kept, SessionState, idle, SaysOf, DoesAll, StopsAt, Performs}
-use Rattle.std.proofs.lemmas.List.{append-nil, append_assoc, take-append-drop, length-drop, replicate-append-replicate, drop_all}
+use Rattle.std.proofs.lemmas.List.{append-nil, append_assoc, take-append-drop, length-drop, replicate-append-replicate, drop_all, take_all}
 use Rattle.std.proofs.Math.Nat.{eq-or-lt_of_le}
 use Rattle.bib_data.specs.declared.request.Request.TheVariants as request
 use Rattle.bib_journal.specs.declared.changing.Turned.{Turned}
@@ -36,6 +36,14 @@ both_lead n steps file w v = subst (λ (ss : List Step). LeadTo ss file) (take-a
 pub parts_lead : (n : ℕ) (steps : List Step) (file : Text) → LeadTo steps file → LeadTo (drop n steps) file × LeadTo (take n steps) (first_of (drop n steps) file)
 parts_lead n steps file w =
     lead_to_parts (take n steps) (drop n steps) file (subst (λ (ss : List Step). LeadTo ss file) (sym (take-append-drop n steps)) w)
+
+-- the last `n` steps, and the others, if both ends are the number of the steps
+pub last_part : (steps : List Step) (n from to : ℕ) → from ≡ length steps → to ≡ length steps → drop (from - n) (take to steps) ≡ drop (length steps - n) steps
+last_part steps n from to is ends =
+    ap (λ (k : ℕ). drop (k - n) (take to steps)) is ∙ ap (drop (length steps - n)) (take_all to steps (omega (arith, ends)))
+
+pub first_part : (steps : List Step) (n from : ℕ) → from ≡ length steps → drop 0 (take (from - n) steps) ≡ take (length steps - n) steps
+first_part steps n from is = ap (λ (k : ℕ). take (k - n) steps) is
 
 -- ---- one undo after another
 

@@ -11,9 +11,10 @@ ghost use Rattle.bib_journal.specs.declared.fault.SessionFault.TheVariants.{Noth
 
 use crate::closing::close;
 use crate::fault::{SessionFault, unopened};
-use crate::loading::opened_with;
+use crate::loading::{opened_packed, opened_with};
+use crate::packed_replay::file_before;
 use crate::performing::{Performed, repeat};
-use crate::replay::{belong_once, file_before};
+use crate::replay::belong_once;
 use crate::saving::{Saved, saved_back};
 use crate::session::Session;
 use bib_data::Request;
@@ -190,20 +191,14 @@ fn undo_in<L: ItemList>(
     ensures turned { IfOk result (Turns Undo n file.items (Some journal.now)) }
     ensures refused { IfErr result (λ fault. RefusesLoad fault file.items journal.now) }
 {
-    let (mut db, said) = opened_with(alloc, file, journal, empty)?;
-    let done = n.min(said.past.as_slice().len());
-    let file = file_before(
-        alloc,
-        &mut db,
-        said.past.as_slice(),
-        said.future.as_slice(),
-        done,
-    );
+    let (mut db, said) = opened_packed(alloc, file, journal, empty)?;
+    let done = n.min(said.past.len());
+    let file = file_before(alloc, &mut db, &said.past, &said.future, done);
     close(db);
     match file? {
         Some(file) => Ok(Turned {
             performed: undone(done, n),
-            saved: saved_back(alloc, said, done, file)?,
+            saved: saved_back(alloc, &said.past, &said.future, done, file)?,
         }),
         None => Err(SessionFault::JournalMismatch),
     }

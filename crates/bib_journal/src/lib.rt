@@ -13,6 +13,7 @@ mod laws;
 mod loading;
 mod open_step;
 mod other_entries;
+mod packed_replay;
 mod performing;
 mod renaming;
 mod replay;

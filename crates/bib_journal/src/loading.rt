@@ -14,7 +14,7 @@ use crate::fault::{SessionFault, unopened, unread};
 use crate::replay::belong;
 use bib_scan::{FILE_LIMIT, ReadFault};
 use bib_store::{Database, ItemList};
-use journal_format::{Journal, digest, read_journal};
+use journal_format::{Journal, PackedJournal, digest, pack_journal, read_journal};
 use std::alloc::Global;
 
 /// Refuses a file that is too long to be opened, with 9 as `Database::open_file` refuses it.
@@ -86,6 +86,67 @@ pub(crate) fn opened_with<L: ItemList>(
         Ok(db) => {
             db.opens();
             match said_with(alloc, digest.as_slice(), journal) {
+                Ok(said) => Ok((db, said)),
+                Err(fault) => {
+                    close(db);
+                    Err(fault)
+                }
+            }
+        }
+        Err(fault) => Err(unopened(fault)),
+    }
+}
+
+/// What the journal says, whatever the file. The steps stay in its text.
+fn packed_in(alloc: Global, journal: &[u8]) -> Result<PackedJournal<'_>, SessionFault>
+    ensures said { IfOk result (λ said. IsJournalOf said journal.now) }
+    ensures refused { IfErr result (λ fault. (file : FileText) → IsOpenable file → RefusesLoad fault file journal.now) }
+{
+    match pack_journal(alloc, journal) {
+        Ok(said) => Ok(said),
+        Err(fault) => Err(unread(fault)),
+    }
+}
+
+/// What the journal says, if it is of a file with this digest. The steps stay in its text.
+fn packed_with<'a>(
+    alloc: Global,
+    digest: &[u8],
+    journal: &'a [u8],
+) -> Result<PackedJournal<'a>, SessionFault>
+    ensures said { IfOk result (λ said. IsJournalOf said journal.now) }
+    ensures digest { IfOk result (λ said. said.digest ≡ digest.now) }
+    ensures refused { IfErr result (λ fault. (file : FileText) → IsOpenable file → digest.now ≡ digest_of file → RefusesLoad fault file journal.now) }
+{
+    let said = packed_in(alloc, journal)?;
+    if said.digest != digest {
+        return Err(SessionFault::JournalMismatch);
+    }
+    Ok(said)
+}
+
+/// The open file, and what its journal says, as `opened_with` gives them. The steps stay in the journal's text.
+pub(crate) fn opened_packed<'a, L: ItemList>(
+    alloc: Global,
+    file: Vec<u8>,
+    journal: &'a [u8],
+    empty: L,
+) -> Result<(Database<L>, PackedJournal<'a>), SessionFault>
+    requires { L.items empty ≡ [] }
+    ensures file { IfOk result (λ opened. opened.0 ≡ file.items) }
+    ensures opens { OnOk result (IsOpenable file.items) }
+    ensures said { IfOk result (λ opened. IsJournalOf opened.1 journal.now) }
+    ensures digest { IfOk result (λ opened. opened.1.digest ≡ digest_of file.items) }
+    ensures past { IfOk result (λ opened. AreTurnable opened.1.past) }
+    ensures future { IfOk result (λ opened. AreTurnable opened.1.future) }
+    ensures refused { IfErr result (λ fault. RefusesLoad fault file.items journal.now) }
+{
+    check_len(file.as_slice())?;
+    let digest = digest(alloc, file.as_slice())?;
+    match Database::open_file(alloc, file, empty) {
+        Ok(db) => {
+            db.opens();
+            match packed_with(alloc, digest.as_slice(), journal) {
                 Ok(said) => Ok((db, said)),
                 Err(fault) => {
                     close(db);

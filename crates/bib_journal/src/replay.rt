@@ -1,6 +1,6 @@
 //! Steps of a journal, gone over one by one.
 
-ghost use Rattle.std.specs.Prelude.{◌≡◌, ◌-◌, ◌≤◌, ◌↔◌, None, drop, length, IsTrue, IfOk, IfSome};
+ghost use Rattle.std.specs.Prelude.{◌≡◌, ◌↔◌, IsTrue, IfOk};
 ghost use Rattle.bib_spec.specs.Pieces.{applied};
 ghost use Rattle.history_spec.specs.Steps.{IsAllowed, Leads, LeadTo, LeadOn, BelongTo, before, first_of};
 ghost use Rattle.bib_journal.specs.Loading.{IsTurnable, AreTurnable, last_of};
@@ -11,7 +11,7 @@ use journal_format::Step;
 use std::alloc::{AllocError, Global};
 
 /// Makes a step, if it is allowed.
-fn try_on<L: ItemList>(db: &mut Database<L>, step: &[Piece]) -> Result<bool, AllocError>
+pub(crate) fn try_on<L: ItemList>(db: &mut Database<L>, step: &[Piece]) -> Result<bool, AllocError>
     ensures yes { IfOk result (λ yes. IsTrue yes ↔ IsAllowed step.now db.old) }
     ensures on { IfOk result (λ yes. IsTrue yes → db.new ≡ applied step.now db.old) }
 {
@@ -23,7 +23,7 @@ fn try_on<L: ItemList>(db: &mut Database<L>, step: &[Piece]) -> Result<bool, All
 }
 
 /// Goes back over a step, if it leads to this file.
-fn try_back<L: ItemList>(
+pub(crate) fn try_back<L: ItemList>(
     alloc: Global,
     db: &mut Database<L>,
     step: &[Piece],
@@ -151,39 +151,11 @@ pub(crate) fn belong_once<L: ItemList>(
 }
 
 /// The open file's bytes.
-fn bytes_of<L: ItemList>(db: &Database<L>) -> Result<Text, AllocError>
+pub(crate) fn bytes_of<L: ItemList>(db: &Database<L>) -> Result<Text, AllocError>
     ensures { IfOk result (λ bytes. bytes ≡ db.now) }
 {
     match db.bytes() {
         Ok(bytes) => Ok(bytes),
         Err(_) => Err(AllocError),
     }
-}
-
-/// The file before the last `n` past steps, if the steps belong to this file. It ends where the past begins, and takes time
-/// as `belong_once` does, and in the file's length.
-pub(crate) fn file_before<L: ItemList>(
-    alloc: Global,
-    db: &mut Database<L>,
-    past: &[Step],
-    future: &[Step],
-    n: usize,
-) -> Result<Option<Text>, AllocError>
-    requires past { AreTurnable past.now }
-    requires future { AreTurnable future.now }
-    requires within { n ≤ length past.now }
-    ensures file { IfOk result (λ file. IfSome file (λ file. BelongTo past.now future.now db.old × (file ≡ first_of (drop (length past.now - n) past.now) db.old))) }
-    ensures none { IfOk result (λ file. file ≡ None → BelongTo past.now future.now db.old → ⊥) }
-{
-    let (first, last) = past.split_at(past.len() - n);
-    if !belong_once(alloc, db, last, future)? {
-        return Ok(None);
-    }
-    // all items are looked up
-    db.settle();
-    let file = bytes_of(&*db)?;
-    if !go_back_over(alloc, db, first)? {
-        return Ok(None);
-    }
-    Ok(Some(file))
 }

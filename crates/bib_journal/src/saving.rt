@@ -5,7 +5,7 @@ ghost use Rattle.journal_format.specs.Contents.{digest_of, IsDigest};
 ghost use Rattle.journal_format.specs.JournalText.{journal_text};
 
 use bib_text::Text;
-use journal_format::{Journal, Step, digest, write_journal, write_taken_back};
+use journal_format::{PackedSteps, Step, digest, write_journal, write_packed};
 use std::alloc::{AllocError, Global};
 
 /// A file and its journal, as a run leaves them and a later one loads them.
@@ -29,31 +29,25 @@ pub(crate) fn journal_of(
     write_journal(alloc, digest.as_slice(), past, undone)
 }
 
-/// The file, and its journal once the last `n` past steps that its journal said are taken back.
+/// The file, and its journal once the last `n` of these past steps are taken back, before these future steps.
 pub(crate) fn saved_back(
     alloc: Global,
-    said: Journal,
+    past: &PackedSteps<'_>,
+    future: &PackedSteps<'_>,
     n: usize,
     file: Text,
 ) -> Result<Saved, AllocError>
-    requires { n ≤ length said.past }
+    requires { n ≤ length past.now }
     ensures file { IfOk result (λ saved. saved.file ≡ file) }
     ensures journal { IfOk result (λ saved. saved.journal ≡ journal_text (record {
       digest = digest_of file;
-      past = take (length said.past - n) said.past;
-      future = drop (length said.past - n) said.past ++ said.future;
+      past = take (length past.now - n) past.now;
+      future = drop (length past.now - n) past.now ++ future.now;
     })) }
     ensures digest { OnOk result (IsDigest (digest_of file)) }
 {
     let digest = digest(alloc, file.as_slice())?;
-    let past = said.past.as_slice();
     let undos = past.len() - n;
-    let journal = write_taken_back(
-        alloc,
-        digest.as_slice(),
-        undos,
-        past,
-        said.future.as_slice(),
-    )?;
+    let journal = write_packed(alloc, digest.as_slice(), undos, past, future)?;
     Ok(Saved { file, journal })
 }

@@ -1,5 +1,6 @@
 -- The merge of three files in which names are followed.
 use Rattle.std.proofs.Common.{◌≡◌, List, [], map, refl, sym, subst}
+use Rattle.std.specs.Prelude.{Result, Ok, Err, IfOk}
 use Rattle.bib_spec.specs.Text.{Text}
 use Rattle.merge_spec.specs.Units.{Label}
 use Rattle.merge_spec.specs.Conflicts.{Conflict}
@@ -8,7 +9,9 @@ use Rattle.bib_renames.specs.declared.following.Followed.{Followed}
 use Rattle.bib_renames.specs.Renamed.{AreKeyConflicts, IsFollowed}
 use Rattle.bib_uses.specs.declared.losing.LostUse.{LostUse}
 use Rattle.bib_renames.proofs.Renamings.{stays}
+use Rattle.bib_places.specs.ConflictsSeen.{conflict_seen}
 use Rattle.bib_merge.specs.declared.fault.MergeFault.{MergeFault}
+use Rattle.bib_merge.specs.declared.merging.Merged.{Merged}
 use Rattle.bib_merge.specs.Merges.{label_given, IsMergeOfThree, IsMergeOfFiles, RefusesMergeOfThree, RefusesMergeOfFiles, IsOrMemory}
 use Rattle.bib_merge.proofs.RefusedTexts.{weaker}
 
@@ -19,22 +22,26 @@ of_texts given b o t base ours theirs text conflicts lost uses is_b is_o is_t me
     (subst (λ (f : Text). IsMergeOfThree given b f theirs text conflicts lost uses) is_o (subst (λ (f : Text). IsMergeOfThree given b o f text conflicts lost uses) is_t merge))
 
 -- the files in which names are followed
-pub followed : (base ours theirs b o t text : Text) (files : Followed) (keys : List KeyConflict) (conflicts : List Conflict) (lost : List Text) (uses : List LostUse) → base ≡ b → ours ≡ o → theirs ≡ t → keys ≡ files.keys.items
-    → IsFollowed b o t files → IsMergeOfThree (map label_given files.given.items) files.base files.ours files.theirs text conflicts lost uses → IsMergeOfFiles base ours theirs text keys conflicts lost uses
-followed base ours theirs b o t text files keys conflicts lost uses is_b is_o is_t is_keys follows merge =
-    let at : IsFollowed base ours theirs files =
-    subst (λ (f : Text). IsFollowed f ours theirs files) (sym is_b)
-    (subst (λ (f : Text). IsFollowed b f theirs files) (sym is_o) (subst (λ (f : Text). IsFollowed b o f files) (sym is_t) follows)) in
-    record {
-      base_file = files.base;
-      ours_file = files.ours;
-      theirs_file = files.theirs;
-      names = at.names;
-      given = files.given.items;
-      named = at.given;
-      merge = merge;
-      told = subst (AreKeyConflicts base ours theirs) (sym is_keys) at.keys;
-    }
+pub followed : (base ours theirs text : Text) (files : Followed) (keys : List KeyConflict) (conflicts : List Conflict) (lost : List Text) (uses : List LostUse) → keys ≡ files.keys.items
+    → IsFollowed base ours theirs files → IsMergeOfThree (map label_given files.given.items) files.base files.ours files.theirs text conflicts lost uses → IsMergeOfFiles base ours theirs text keys conflicts lost uses
+followed base ours theirs text files keys conflicts lost uses is_keys at merge = record {
+  base_file = files.base;
+  ours_file = files.ours;
+  theirs_file = files.theirs;
+  names = at.names;
+  given = files.given.items;
+  named = at.given;
+  merge = merge;
+  told = subst (AreKeyConflicts base ours theirs) (sym is_keys) at.keys;
+}
+
+-- the same of an answer
+pub followed_as : (base ours theirs : Text) (files : Followed) → IsFollowed base ours theirs files → (answer : Result Merged MergeFault) → IfOk answer (λ merged. merged.keys.items ≡ files.keys.items)
+    → IfOk answer (λ merged. IsMergeOfThree (map label_given files.given.items) files.base files.ours files.theirs merged.text (map conflict_seen merged.conflicts.items) merged.lost.items merged.uses.items)
+    → IfOk answer (λ merged. IsMergeOfFiles base ours theirs merged.text merged.keys.items (map conflict_seen merged.conflicts.items) merged.lost.items merged.uses.items)
+followed_as base ours theirs files at (Ok merged) is_keys merge =
+    followed base ours theirs merged.text files merged.keys.items (map conflict_seen merged.conflicts.items) merged.lost.items merged.uses.items is_keys at merge
+followed_as base ours theirs files at (Err fault) is_keys merge = tt
 
 -- the files as they are, if there is no name to follow
 pub unfollowed : (base ours theirs text : Text) (keys : List KeyConflict) (conflicts : List Conflict) (lost : List Text) (uses : List LostUse) → keys ≡ [] → IsMergeOfThree [] base ours theirs text conflicts lost uses
@@ -76,12 +83,6 @@ refused_texts labels given b o t base ours theirs is is_b is_o is_t fault why =
     subst (λ (f : Text). IsOrMemory (RefusesMergeOfThree given f ours theirs) fault) is_b
     (subst (λ (f : Text). IsOrMemory (RefusesMergeOfThree given b f theirs) fault) is_o
     (subst (λ (f : Text). IsOrMemory (RefusesMergeOfThree given b o f) fault) is_t (subst (λ (ls : List Label). IsOrMemory (RefusesMergeOfThree ls b o t) fault) is why)))
-
--- the files that the sides have, if those in which names are followed have these bytes
-pub follows : (base ours theirs b o t : Text) (files : Followed) → base ≡ b → ours ≡ o → theirs ≡ t → IsFollowed b o t files → IsFollowed base ours theirs files
-follows base ours theirs b o t files is_b is_o is_t is =
-    subst (λ (f : Text). IsFollowed f ours theirs files) (sym is_b)
-    (subst (λ (f : Text). IsFollowed b f theirs files) (sym is_o) (subst (λ (f : Text). IsFollowed b o f files) (sym is_t) is))
 
 -- of the files in which names are followed
 pub refused_followed : (base ours theirs : Text) (files : Followed) → IsFollowed base ours theirs files → (fault : MergeFault)

@@ -1,4 +1,5 @@
 pub mod FollowedFiles
+pub mod SameFiles
 pub mod Spaces
 pub mod UnitItems
 pub mod ItemsMet

@@ -21,6 +21,8 @@ use Rattle.bib_uses.specs.declared.losing.LostUse.{LostUse}
 use Rattle.bib_places.specs.declared.place.File.{File}
 use Rattle.bib_places.specs.declared.place.File.TheVariants as file
 use Rattle.bib_merge.specs.Bodies.{bodies_of, merged_bodies}
+use Rattle.bib_merge.specs.declared.unchanged.Alike.{Alike}
+use Rattle.bib_merge.specs.declared.unchanged.Alike.TheVariants as alike
 use Rattle.bib_merge.specs.declared.fault.MergeFault.{MergeFault}
 use Rattle.bib_merge.specs.declared.fault.MergeFault.TheVariants.{Base, Ours, Theirs, Memory, TextTooLong, FileTooLong, WouldMerge}
 
@@ -75,6 +77,13 @@ pub record AllDiffer (base ours theirs : Text) : Type 0 where
   pub ours_changed : ours ≢ base
   pub theirs_changed : theirs ≢ base
   pub differ : ours ≢ theirs
+
+-- the three files are alike in this way
+abbrev pub IsAlike : Alike → Text → Text → Text → Type 0
+IsAlike alike.OursLeft base ours theirs = ours ≡ base
+IsAlike alike.TheirsLeft base ours theirs = theirs ≡ base
+IsAlike alike.SidesSame base ours theirs = ours ≡ theirs
+IsAlike alike.NoneSame base ours theirs = AllDiffer base ours theirs
 
 -- The same of three files after renamings of entries and macros, by which each follows the names that the sides gave. These are keys
 -- over which the sides are in conflict, and what one side named and the other took away has these names.

@@ -19,4 +19,4 @@ pub use bib_renames::KeyConflict;
 pub use bib_units::Label;
 pub use bib_uses::LostUse;
 pub use fault::MergeFault;
-pub use merging::{Merged, merge};
+pub use merging::{Merged, merge, merge_files};

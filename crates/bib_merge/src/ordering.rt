@@ -70,15 +70,16 @@ fn ascending(alloc: Global, numbers: &[usize]) -> Result<Vec<bool>, AllocError> 
 pub(crate) fn moved_rows(
     alloc: Global,
     rows: &[Row],
-    side: &[usize],
+    side: &[u32],
 ) -> Result<Vec<bool>, AllocError> {
     let mut numbers = Vec::new(alloc);
     let mut both = Vec::new(alloc);
     'side: for k in 0..side.len() {
-        if let Some(row) = rows.get(side[k]) {
-            if let Some(n) = row.base {
+        let at = side[k] as usize;
+        if let Some(row) = rows.get(at) {
+            if let Some(n) = row.base() {
                 numbers.push(n)?;
-                both.push(side[k])?;
+                both.push(at)?;
             }
         }
     }
@@ -147,7 +148,7 @@ impl Chain {
             };
             match rows.get(next) {
                 Some(found) => {
-                    if found.theirs.is_some() {
+                    if found.theirs().is_some() {
                         return at;
                     }
                 }
@@ -187,15 +188,15 @@ pub(crate) fn order(
     alloc: Global,
     rows: &[Row],
     kept: &[bool],
-    ours: &[usize],
-    theirs: &[usize],
+    ours: &[u32],
+    theirs: &[u32],
 ) -> Result<Vec<usize>, AllocError> {
     let moved_by_us = moved_rows(alloc, rows, ours)?;
     let moved_by_them = moved_rows(alloc, rows, theirs)?;
     let mut chain = Chain::none(alloc, rows.len())?;
     let mut last = rows.len();
     'ours: for k in 0..ours.len() {
-        let row = ours[k];
+        let row = ours[k] as usize;
         let goes = is_marked(moved_by_them.as_slice(), row)
             && !is_marked(moved_by_us.as_slice(), row);
         if is_marked(kept, row) && !goes {
@@ -205,7 +206,7 @@ pub(crate) fn order(
     }
     let mut anchor = rows.len();
     'theirs: for k in 0..theirs.len() {
-        let row = theirs[k];
+        let row = theirs[k] as usize;
         if is_marked(kept, row) {
             if !chain.has(row) {
                 let last = chain.past_ours(rows, anchor);

@@ -1,15 +1,18 @@
 //! Which units of three files are the same unit: those with one label, the first of each file, the second of each, and so on.
 
-use bib_units::{Label, UnitView};
+use bib_units::{Label, UnitView, is_same};
 use std::alloc::{AllocError, Global};
-use std::collections::HashMap;
+use std::hash::{FoldHasher, Hasher};
 
-/// The numbers of one unit in three files.
-#[derive(Clone, Copy, Debug)]
+/// What stands for no number. No file has so many units, since each has a byte.
+const NONE: u32 = u32::MAX;
+
+/// The numbers of one unit in three files, in four bytes each.
+#[derive(Clone, Copy)]
 pub(crate) struct Row {
-    pub base: Option<usize>,
-    pub ours: Option<usize>,
-    pub theirs: Option<usize>,
+    base: u32,
+    ours: u32,
+    theirs: u32,
 }
 
 /// The file of a number.
@@ -22,26 +25,48 @@ pub(crate) enum In {
 
 /// The row without numbers.
 const NOWHERE: Row = Row {
-    base: None,
-    ours: None,
-    theirs: None,
+    base: NONE,
+    ours: NONE,
+    theirs: NONE,
 };
 
-/// The row with the number of one more file.
-fn with(row: Row, file: In, n: usize) -> Row {
-    match file {
-        In::Base => Row {
-            base: Some(n),
-            ..row
-        },
-        In::Ours => Row {
-            ours: Some(n),
-            ..row
-        },
-        In::Theirs => Row {
-            theirs: Some(n),
-            ..row
-        },
+/// The number, if it is one.
+fn if_number(n: u32) -> Option<usize> {
+    if n == NONE { None } else { Some(n as usize) }
+}
+
+/// The number, or none if it is too great.
+fn small(n: usize) -> u32 {
+    match u32::try_from(n) {
+        Ok(n) => n,
+        Err(_) => NONE,
+    }
+}
+
+impl Row {
+    /// The number in the common file.
+    pub fn base(self) -> Option<usize> {
+        if_number(self.base)
+    }
+
+    /// The number in our file.
+    pub fn ours(self) -> Option<usize> {
+        if_number(self.ours)
+    }
+
+    /// The number in their file.
+    pub fn theirs(self) -> Option<usize> {
+        if_number(self.theirs)
+    }
+
+    /// The row with the number of one more file.
+    fn with(self, file: In, n: usize) -> Row {
+        let n = small(n);
+        match file {
+            In::Base => Row { base: n, ..self },
+            In::Ours => Row { ours: n, ..self },
+            In::Theirs => Row { theirs: n, ..self },
+        }
     }
 }
 
@@ -67,65 +92,130 @@ fn write_code(code: &mut Vec<u8>, label: Label<'_>) -> Result<(), AllocError> {
     Ok(())
 }
 
+/// The hash of these bytes.
+fn hash_of(bytes: &[u8]) -> u64 {
+    let mut hasher = FoldHasher::default();
+    hasher.write(bytes);
+    hasher.finish()
+}
+
 /// The number at this place of a list that may be too short for it.
-fn number_at(numbers: &[Option<usize>], n: usize) -> Option<usize> {
+fn number_at(numbers: &[u32], n: usize) -> Option<usize> {
     match numbers.get(n) {
-        Some(number) => *number,
+        Some(number) => if_number(*number),
         None => None,
     }
 }
 
+/// A label that units have, in a list of those with hashes that fall together.
+#[derive(Clone, Copy)]
+struct Name<'a> {
+    label: Label<'a>,
+    hash: u64,
+    // the next name of the list
+    next: u32,
+    // the first row of the label
+    row: u32,
+}
+
 /// The rows of all units.
 #[derive(Drop)]
-pub(crate) struct Rows {
+pub(crate) struct Rows<'a> {
     alloc: Global,
     pub rows: Vec<Row>,
-    // the first row of each label
-    firsts: HashMap<Vec<u8>, usize>,
     // of each row, the next one of the same label
-    nexts: Vec<Option<usize>>,
+    nexts: Vec<u32>,
+    names: Vec<Name<'a>>,
+    // the first name of each list
+    heads: Vec<u32>,
     // the label that is looked for
     code: Vec<u8>,
 }
 
-impl Rows {
+impl<'a> Rows<'a> {
     /// No rows; there is room for this many.
     pub fn none(alloc: Global, count: usize) -> Result<Self, AllocError> {
         Ok(Rows {
             alloc,
             rows: Vec::with_capacity(alloc, count)?,
-            firsts: HashMap::with_capacity(alloc, count)?,
             nexts: Vec::with_capacity(alloc, count)?,
+            names: Vec::with_capacity(alloc, count)?,
+            heads: vec![in alloc; NONE; count.saturating_add(1)]?,
             code: Vec::new(alloc),
         })
+    }
+
+    /// The list that labels with this hash are in.
+    fn list_of(&self, hash: u64) -> usize {
+        let count = self.heads.len() as u64;
+        if count == 0 {
+            return 0;
+        }
+        ((hash >> 32) % count) as usize
+    }
+
+    /// The number of the name of this label, which has this hash, if there is one.
+    fn found(&self, label: Label<'_>, hash: u64) -> Option<usize> {
+        let mut next = number_at(self.heads.as_slice(), self.list_of(hash));
+        'names: for _ in 0..self.names.len() {
+            let n = next?;
+            let name = self.names.get(n)?;
+            if name.hash == hash && is_same(name.label, label) {
+                return Some(n);
+            }
+            next = if_number(name.next);
+        }
+        None
     }
 
     /// A new row.
     fn new_row(&mut self) -> Result<usize, AllocError> {
         let row = self.rows.len();
         self.rows.push(NOWHERE)?;
-        self.nexts.push(None)?;
+        self.nexts.push(NONE)?;
         Ok(row)
     }
 
-    /// The first row of a label, which is a new one if there is none yet.
-    fn first(&mut self, label: Label<'_>) -> Result<usize, AllocError> {
-        if let Some(row) = self.with_label(label)? {
-            return Ok(row);
+    /// The number of the name of a label, which is a new one with a row if there is none yet.
+    fn name(&mut self, label: Label<'a>) -> Result<usize, AllocError> {
+        write_code(&mut self.code, label)?;
+        let hash = hash_of(self.code.as_slice());
+        if let Some(n) = self.found(label, hash) {
+            return Ok(n);
         }
         let row = self.new_row()?;
-        let code = Vec::from_slice(self.alloc, self.code.as_slice())?;
-        self.firsts.insert(code, row)?;
-        Ok(row)
+        let n = self.names.len();
+        let list = self.list_of(hash);
+        let next = match number_at(self.heads.as_slice(), list) {
+            Some(next) => small(next),
+            None => NONE,
+        };
+        self.names.push(Name {
+            label,
+            hash,
+            next,
+            row: small(row),
+        })?;
+        if list < self.heads.len() {
+            self.heads[list] = small(n);
+        }
+        Ok(n)
     }
 
     /// The first row of a label, if there is one.
     pub fn with_label(&mut self, label: Label<'_>) -> Result<Option<usize>, AllocError> {
         write_code(&mut self.code, label)?;
-        match self.firsts.get(&self.code) {
-            Some(row) => Ok(Some(*row)),
+        let hash = hash_of(self.code.as_slice());
+        match self.found(label, hash) {
+            Some(n) => Ok(self.first_row(n)),
             None => Ok(None),
         }
+    }
+
+    /// The first row of the label with this name.
+    fn first_row(&self, n: usize) -> Option<usize> {
+        let name = self.names.get(n)?;
+        if_number(name.row)
     }
 
     /// The row after this one of the same label, which is a new one if there is none yet.
@@ -135,30 +225,45 @@ impl Rows {
         }
         let next = self.new_row()?;
         if row < self.nexts.len() {
-            self.nexts[row] = Some(next);
+            self.nexts[row] = small(next);
         }
         Ok(next)
     }
 
+    /// The row of one more unit with this name, if the last one of it that a unit of the file has is this.
+    fn row_after(&mut self, n: usize, last: Option<usize>) -> Result<usize, AllocError> {
+        match last {
+            Some(row) => self.next(row),
+            None => match self.first_row(n) {
+                Some(row) => Ok(row),
+                None => self.new_row(),
+            },
+        }
+    }
+
+    /// The rows alone.
+    pub fn into_rows(self) -> Vec<Row> {
+        self.rows
+    }
+
     /// Adds the units of a file, and gives the row of each.
-    pub fn add(&mut self, units: &[UnitView<'_>], file: In) -> Result<Vec<usize>, AllocError> {
-        // of the first row of each label, the last one of that label that a unit of the file has
-        let mut last = vec![in self.alloc; None; self.rows.len()]?;
+    pub fn add(&mut self, units: &[UnitView<'a>], file: In) -> Result<Vec<u32>, AllocError> {
+        // of each name, the last row that a unit of the file has
+        let mut last = vec![in self.alloc; NONE; self.names.len()]?;
         let mut places = Vec::with_capacity(self.alloc, units.len())?;
         'units: for n in 0..units.len() {
-            let first = self.first(units[n].label)?;
-            let row = match number_at(last.as_slice(), first) {
-                Some(row) => self.next(row)?,
-                None => first,
-            };
-            if last.len() < self.rows.len() {
-                last.push(None)?;
+            let name = self.name(units[n].label)?;
+            let row = self.row_after(name, number_at(last.as_slice(), name))?;
+            if last.len() < self.names.len() {
+                last.push(NONE)?;
             }
-            if first < last.len() && row < self.rows.len() {
-                last[first] = Some(row);
-                self.rows[row] = with(self.rows[row], file, n);
+            if name < last.len() {
+                last[name] = small(row);
             }
-            places.push(row)?;
+            if row < self.rows.len() {
+                self.rows[row] = self.rows[row].with(file, n);
+            }
+            places.push(small(row))?;
         }
         Ok(places)
     }

@@ -49,7 +49,7 @@ fn lines(text: &[u8]) -> usize {
 }
 
 /// Of three white spaces, theirs if ours is that of the common file, or else ours.
-pub(crate) fn chosen<'a>(base: &'a [u8], ours: &'a [u8], theirs: &'a [u8]) -> &'a [u8] {
+pub(crate) fn chosen<'a>(base: &[u8], ours: &'a [u8], theirs: &'a [u8]) -> &'a [u8] {
     if ours == base {
         return theirs;
     }
@@ -58,7 +58,7 @@ pub(crate) fn chosen<'a>(base: &'a [u8], ours: &'a [u8], theirs: &'a [u8]) -> &'
 
 /// The white space after a unit by itself.
 fn own_space<'a>(
-    b: Option<UnitView<'a>>,
+    b: Option<UnitView<'_>>,
     o: Option<UnitView<'a>>,
     t: Option<UnitView<'a>>,
 ) -> &'a [u8] {
@@ -92,28 +92,28 @@ fn wider<'a>(one: &'a [u8], other: &'a [u8]) -> &'a [u8] {
 
 /// The three lists of units.
 #[derive(Clone, Copy)]
-pub(crate) struct Units<'a> {
-    pub base: &'a [UnitView<'a>],
+pub(crate) struct Units<'b, 'a> {
+    pub base: &'b [UnitView<'b>],
     pub ours: &'a [UnitView<'a>],
     pub theirs: &'a [UnitView<'a>],
 }
 
 /// The white space after the unit of a row, if that of another row comes next.
-pub(crate) fn space_after<'a>(units: Units<'a>, row: Row, next: Option<Row>) -> &'a [u8] {
+pub(crate) fn space_after<'a>(units: Units<'_, 'a>, row: Row, next: Option<Row>) -> &'a [u8] {
     let own = own_space(
-        unit(units.base, row.base),
-        unit(units.ours, row.ours),
-        unit(units.theirs, row.theirs),
+        unit(units.base, row.base()),
+        unit(units.ours, row.ours()),
+        unit(units.theirs, row.theirs()),
     );
     let Some(next) = next else {
         return own;
     };
-    if follows(row.ours, next.ours) || follows(row.theirs, next.theirs) {
+    if follows(row.ours(), next.ours()) || follows(row.theirs(), next.theirs()) {
         return own;
     }
-    let ahead = match space_before(units.ours, next.ours) {
+    let ahead = match space_before(units.ours, next.ours()) {
         Some(space) => space,
-        None => match space_before(units.theirs, next.theirs) {
+        None => match space_before(units.theirs, next.theirs()) {
             Some(space) => space,
             None => b"",
         },

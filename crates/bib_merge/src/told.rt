@@ -1,6 +1,7 @@
 //! What a merge says.
 
 use bib_places::Conflict;
+use bib_store::{Database, Paged};
 use bib_text::Text;
 use bib_uses::LostUse;
 
@@ -9,6 +10,15 @@ use bib_uses::LostUse;
 #[derive(Drop)]
 pub(crate) struct Told {
     pub text: Text,
+    pub conflicts: Vec<Conflict>,
+    pub lost: Vec<Text>,
+    pub uses: Vec<LostUse>,
+}
+
+/// The same, with the merged file open.
+#[derive(Drop)]
+pub(crate) struct OpenMerge {
+    pub file: Database<Paged>,
     pub conflicts: Vec<Conflict>,
     pub lost: Vec<Text>,
     pub uses: Vec<LostUse>,

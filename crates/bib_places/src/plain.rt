@@ -76,7 +76,7 @@ fn white(text: &[u8]) -> &[u8]
 fn plain_place<'a, L: ItemList>(
     alloc: Global,
     given: &Tally<'_>,
-    base: &Side<'a, L>,
+    base: &Side<'_, L>,
     ours: &Side<'a, L>,
     theirs: &Side<'a, L>,
     b: Option<usize>,
@@ -90,13 +90,15 @@ fn plain_place<'a, L: ItemList>(
     ensures may { IfOk result (λ place. (rb ro rt : Reading) → IsSide rb base.now.db.now base.now.units.now → IsSide ro ours.now.db.now ours.now.units.now → IsSide rt theirs.now.db.now theirs.now.units.now
         → (labels : List Label) → CountsLabels given.now.counts labels → may_come labels (unit_at (units_of rb) b) (unit_at (units_of ro) o) (unit_at (units_of rt) t) (outcome_seen (unit_at (units_of ro) o) (unit_at (units_of rt) t) place.outcome) ≡ true) }
 {
+    let our_unit = unit_at(ours.units, o);
+    let their_unit = unit_at(theirs.units, t);
     let met = Met {
         base: unit_at(base.units, b),
-        ours: unit_at(ours.units, o),
-        theirs: unit_at(theirs.units, t),
+        ours: our_unit,
+        theirs: their_unit,
     };
     let outcome = first_that_may(alloc, given, base.db, ours.db, theirs.db, met)?;
-    let space = white(own_space(met.ours, met.theirs));
+    let space = white(own_space(our_unit, their_unit));
     Ok(Place {
         base: b,
         ours: o,
@@ -110,7 +112,7 @@ fn plain_place<'a, L: ItemList>(
 fn put_base_unit<'a, L: ItemList>(
     alloc: Global,
     given: &Tally<'_>,
-    base: &Side<'a, L>,
+    base: &Side<'_, L>,
     ours: &Side<'a, L>,
     theirs: &Side<'a, L>,
     n: usize,
@@ -140,7 +142,7 @@ fn put_base_unit<'a, L: ItemList>(
 fn put_base<'a, L: ItemList>(
     alloc: Global,
     given: &Tally<'_>,
-    base: &Side<'a, L>,
+    base: &Side<'_, L>,
     ours: &Side<'a, L>,
     theirs: &Side<'a, L>,
     numbers: &[usize],
@@ -165,7 +167,7 @@ fn put_base<'a, L: ItemList>(
 fn put_our_unit<'a, L: ItemList>(
     alloc: Global,
     given: &Tally<'_>,
-    base: &Side<'a, L>,
+    base: &Side<'_, L>,
     ours: &Side<'a, L>,
     theirs: &Side<'a, L>,
     n: usize,
@@ -193,7 +195,7 @@ fn put_our_unit<'a, L: ItemList>(
 fn put_ours<'a, L: ItemList>(
     alloc: Global,
     given: &Tally<'_>,
-    base: &Side<'a, L>,
+    base: &Side<'_, L>,
     ours: &Side<'a, L>,
     theirs: &Side<'a, L>,
     numbers: &[usize],
@@ -217,7 +219,7 @@ fn put_ours<'a, L: ItemList>(
 fn put_their_unit<'a, L: ItemList>(
     alloc: Global,
     given: &Tally<'_>,
-    base: &Side<'a, L>,
+    base: &Side<'_, L>,
     ours: &Side<'a, L>,
     theirs: &Side<'a, L>,
     n: usize,
@@ -242,7 +244,7 @@ fn put_their_unit<'a, L: ItemList>(
 fn put_theirs<'a, L: ItemList>(
     alloc: Global,
     given: &Tally<'_>,
-    base: &Side<'a, L>,
+    base: &Side<'_, L>,
     ours: &Side<'a, L>,
     theirs: &Side<'a, L>,
     numbers: &[usize],
@@ -266,7 +268,7 @@ fn put_theirs<'a, L: ItemList>(
 pub fn plain_places<'a, L: ItemList>(
     alloc: Global,
     given: &[OwnedLabel],
-    base: &Side<'a, L>,
+    base: &Side<'_, L>,
     ours: &Side<'a, L>,
     theirs: &Side<'a, L>,
 ) -> Result<Vec<Place<'a>>, AllocError>

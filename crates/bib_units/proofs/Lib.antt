@@ -1,2 +1,3 @@
+pub mod CommentsGathered
 pub mod UnitsAdded
 pub mod UnitsOfFile

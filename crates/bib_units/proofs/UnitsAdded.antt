@@ -114,10 +114,7 @@ plain-added r n i old mid new before view body trail at bytes trail_is other add
 take-both : (a b : Text) (k : ℕ) → take (length a + k) (a ++ b) ≡ a ++ take k b
 take-both a b k = take-append-add a b k
 
--- the body of an item, and the text after it
-pub body-of : (i : Item) (text : Text) (len : ℕ) → item_bytes i ≡ text → length (tree_bytes i.tree) ≡ len → take len text ≡ tree_bytes i.tree
-body-of i text len bytes is = sym (ap (take len) bytes) ∙ ap (λ k. take k (tree_bytes i.tree ++ i.trail)) (sym is) ∙ take-append_seam (tree_bytes i.tree) i.trail
-
+-- the text after an item
 pub trail-of : (i : Item) (text : Text) (len : ℕ) → item_bytes i ≡ text → length (tree_bytes i.tree) ≡ len → drop len text ≡ i.trail
 trail-of i text len bytes is = sym (ap (drop len) bytes) ∙ ap (λ k. drop k (tree_bytes i.tree ++ i.trail)) (sym is) ∙ drop-append_seam (tree_bytes i.tree) i.trail
 

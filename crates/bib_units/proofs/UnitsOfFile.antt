@@ -1,35 +1,28 @@
 -- The walk over the items of a file.
-use Rattle.std.proofs.Common.{◌≡◌, ℕ, zero, suc, ◌+◌, ◌<◌, ◌≤◌, List, [], ◌∷◌, ◌++◌, Some, slice_get, length, take, drop, refl, sym, ◌∙◌, ap, ap₂, subst, arith, append_assoc, append-nil, length-append, not-suc-le-zero, le_of_suc-le-suc}
+use Rattle.std.proofs.Common.{◌≡◌, ℕ, zero, suc, ◌+◌, ◌<◌, ◌≤◌, List, [], ◌∷◌, ◌++◌, Some, slice_get, length, drop, refl, sym, ◌∙◌, ap, subst, append_assoc, append-nil, not-suc-le-zero, le_of_suc-le-suc}
 use Rattle.std.specs.List.{flat_map}
-use Rattle.std.proofs.lemmas.List.{drop_all, drop_more}
-use Rattle.std.proofs.lemmas.Option.{slice_get_within, get_or_from_slice_get}
-use Rattle.std.proofs.Math.Seq.{take-append_seam, drop-append_seam}
+use Rattle.std.proofs.lemmas.List.{drop_all}
 use Rattle.bib_spec.specs.Text.{Text}
-use Rattle.bib_spec.specs.Reading.{Item, Reading, item_bytes, bytes_of}
+use Rattle.bib_spec.specs.Reading.{Item, Reading}
 use Rattle.bib_spec.specs.Texts.{months, macros_at}
 use Rattle.merge_spec.specs.Units.{Spaced, units_in, units_from, text_units, spaced_of}
 use Rattle.bib_units.specs.declared.unit_view.UnitView.{UnitView}
+use Rattle.bib_units.specs.Comments.{comment_bytes, comments_of}
 use Rattle.bib_units.specs.UnitsSeen.{AreUnits}
+use Rattle.bib_units.proofs.CommentsGathered.{drop-next}
 use Rattle.bib_units.proofs.UnitsAdded.{macros-next}
 
--- before item n the rest of the file has the items from there on, and the units so far, with those of these items, are all
+-- before item n the rest of the comments is that of the items from there on, and the units so far, with those of these items, are all
 pub record IsWalkedTo (r : Reading) (n : ℕ) (rest : Text) (views : List UnitView) : Type 0 where
-  pub rest_is : rest ≡ flat_map item_bytes (drop n r.items)
+  pub rest_is : rest ≡ flat_map comment_bytes (drop n r.items)
   pub before : List Spaced
   pub all : before ++ units_from (macros_at months r.items n) (drop n r.items) ≡ spaced_of r
   pub are : AreUnits r views before
 
-pub drop-next : {X : Type 0} (xs : List X) (n : ℕ) (x : X) → slice_get xs n ≡ Some x → drop n xs ≡ x ∷ drop (n + 1) xs
-drop-next xs n x at = drop_more xs n x (slice_get_within xs n x at) ∙ ap (λ y. y ∷ drop (n + 1) xs) (get_or_from_slice_get xs n x x at)
-
--- the rest begins with the next item
-pub rest-next : (r : Reading) (n : ℕ) (rest : Text) (views : List UnitView) (i : Item) → slice_get r.items n ≡ Some i → IsWalkedTo r n rest views → rest ≡ item_bytes i ++ flat_map item_bytes (drop (n + 1) r.items)
-rest-next r n rest views i at is = is.rest_is ∙ ap (flat_map item_bytes) (drop-next r.items n i at)
-
-pub walked-first : (r : Reading) (rest : Text) (views : List UnitView) → rest ≡ flat_map item_bytes r.items → AreUnits r views (text_units months r.front) → IsWalkedTo r 0 rest views
+pub walked-first : (r : Reading) (rest : Text) (views : List UnitView) → rest ≡ comments_of r → AreUnits r views (text_units months r.front) → IsWalkedTo r 0 rest views
 walked-first r rest views rest_is are = record { rest_is = rest_is; before = text_units months r.front; all = refl; are = are }
 
-pub walked-next : (r : Reading) (n : ℕ) (rest after : Text) (old new : List UnitView) (i : Item) → slice_get r.items n ≡ Some i → (is : IsWalkedTo r n rest old) → after ≡ flat_map item_bytes (drop (n + 1) r.items) →
+pub walked-next : (r : Reading) (n : ℕ) (rest after : Text) (old new : List UnitView) (i : Item) → slice_get r.items n ≡ Some i → (is : IsWalkedTo r n rest old) → after ≡ flat_map comment_bytes (drop (n + 1) r.items) →
     AreUnits r new (is.before ++ units_in (macros_at months r.items n) i.tree i.trail) → IsWalkedTo r (n + 1) after new
 walked-next r n rest after old new i at is after_is are = record {
   rest_is = after_is;
@@ -49,24 +42,3 @@ pub slice_get-within : {X : Type 0} (xs : List X) (n : ℕ) → n < length xs �
 slice_get-within [] n lt = absurd (not-suc-le-zero lt)
 slice_get-within (x ∷ xs) zero lt = (x, refl)
 slice_get-within (x ∷ xs) (suc n) lt = slice_get-within xs n (le_of_suc-le-suc lt)
-
--- the front of a file, and the rest
-pub front-of : (file : Text) (r : Reading) (len : ℕ) → bytes_of r ≡ file → len ≡ length r.front → take len file ≡ r.front
-front-of file r len bytes is = sym (ap (take len) bytes) ∙ ap (λ k. take k (bytes_of r)) is ∙ take-append_seam r.front (flat_map item_bytes r.items)
-
-pub rest-of : (file : Text) (r : Reading) (len : ℕ) → bytes_of r ≡ file → len ≡ length r.front → drop len file ≡ flat_map item_bytes r.items
-rest-of file r len bytes is = sym (ap (drop len) bytes) ∙ ap (λ k. drop k (bytes_of r)) is ∙ drop-append_seam r.front (flat_map item_bytes r.items)
-
--- the rest begins with the next item, and goes on with those after it
-module _ (r : Reading) (n : ℕ) (rest : Text) (views : List UnitView) (i : Item) (at : slice_get r.items n ≡ Some i) (is : IsWalkedTo r n rest views) (len : ℕ) (whole : len ≡ length (item_bytes i)) where
-  pub next-within : len ≤ length rest
-  next-within = from (length (flat_map item_bytes (drop (n + 1) r.items))) whole (ap length (rest-next r n rest views i at is) ∙ length-append (item_bytes i) (flat_map item_bytes (drop (n + 1) r.items)))
-    where
-      from : {a b c : ℕ} (d : ℕ) → a ≡ b → c ≡ b + d → a ≤ c
-      from d e f = omega (arith, e, f)
-
-  pub next-of : take len rest ≡ item_bytes i
-  next-of = ap₂ take whole (rest-next r n rest views i at is) ∙ take-append_seam (item_bytes i) (flat_map item_bytes (drop (n + 1) r.items))
-
-  pub after-of : drop len rest ≡ flat_map item_bytes (drop (n + 1) r.items)
-  after-of = ap₂ drop whole (rest-next r n rest views i at is) ∙ drop-append_seam (item_bytes i) (flat_map item_bytes (drop (n + 1) r.items))

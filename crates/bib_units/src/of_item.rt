@@ -1,14 +1,14 @@
 //! The units of an item, and of a text between items.
 
-ghost use Rattle.std.specs.Prelude.{◌≡◌, ◌≢◌, ◌≤◌, [], ◌++◌, List, Some, length, OnOk};
-ghost use Rattle.bib_spec.specs.Bytes.{name_limit};
+ghost use Rattle.std.specs.Prelude.{◌≡◌, ◌≢◌, ◌≤◌, ◌+◌, [], ◌++◌, List, length, IfOk, OnOk};
 ghost use Rattle.bib_spec.specs.Text.{Text};
-ghost use Rattle.bib_spec.specs.Tree.{Tree, IsTree, tree_bytes};
+ghost use Rattle.bib_spec.specs.Tree.{Tree, tree_bytes};
 ghost use Rattle.bib_spec.specs.Reading.{Item, Reading, item_bytes};
 ghost use Rattle.bib_spec.specs.Texts.{Macros, months, macros_at, is_empty};
 ghost use Rattle.bib_scan.specs.View.{view_of, kind_of};
 ghost use Rattle.bib_scan.specs.declared.view.Kind.TheVariants.{Entry, Macro, Comment};
 ghost use Rattle.merge_spec.specs.Units.{Spaced, text_units, units_in, tree_label};
+ghost use Rattle.bib_units.specs.Comments.{comment_bytes};
 ghost use Rattle.bib_units.specs.Labels.{label_seen};
 ghost use Rattle.bib_units.specs.UnitsSeen.{AreUnits, IsItemAt};
 
@@ -118,22 +118,30 @@ fn add_comment<'a>(
     Ok(())
 }
 
-/// Adds the units of item `n`, which has these bytes, the first `len` of which are its body.
+/// Adds the units of item `n`. If it is a comment, the text begins with its bytes and those of the text after it. What comes after
+/// them is returned.
 pub(crate) fn add_item<'a>(
     units: &mut Vec<UnitView<'a>>,
     n: usize,
-    text: &'a [u8],
-    len: usize,
-) -> Result<(), AllocError>
-    requires { len ≤ length text.now }
-    ensures { OnOk result ((r : Reading) (i : Item) (before : List Spaced) → IsItemAt r n i → IsTree name_limit i.tree → item_bytes i ≡ text.now → length (tree_bytes i.tree) ≡ len
+    item: &ItemView<'a>,
+    rest: &'a [u8],
+) -> Result<&'a [u8], AllocError>
+    requires { item.now.kind ≡ Comment → length item.now.body + length item.now.trail ≤ length rest.now }
+    ensures rest { IfOk result (λ after. (i : Item) (more : Text) → item.now ≡ view_of i → rest.now ≡ comment_bytes i ++ more → after.now ≡ more) }
+    ensures units { OnOk result ((r : Reading) (i : Item) (more : Text) (before : List Spaced) → IsItemAt r n i → item.now ≡ view_of i → rest.now ≡ comment_bytes i ++ more
         → AreUnits r units.old.items before → AreUnits r units.new.items (before ++ units_in (macros_at months r.items n) i.tree i.trail)) }
 {
-    let (body, trail) = text.split_at(len);
-    let item = ItemView::of(body, trail);
     match item.kind() {
-        Kind::Comment => add_comment(units, n, text, len)?,
-        _ => add_plain(units, n, body, trail, label_of(body, &item))?,
+        Kind::Comment => {
+            let len = item.body().len();
+            let (text, after) = rest.split_at(len + item.trail().len());
+            add_comment(units, n, text, len)?;
+            Ok(after)
+        }
+        _ => {
+            let body = item.body();
+            add_plain(units, n, body, item.trail(), label_of(body, item))?;
+            Ok(rest)
+        }
     }
-    Ok(())
 }

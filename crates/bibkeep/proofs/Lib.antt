@@ -1,1 +1,3 @@
 pub mod Finishing
+pub mod Openings
+pub mod Writing

@@ -1,5 +1,5 @@
 -- How the program ends, and what it puts in place.
-use Rattle.std.specs.Prelude.{ℕ, ◌≡◌, ◌≢◌, Bool, true, false, ◌||◌, is_some, [], codes, slice_get, IsUtf8, Option, Some, None, option_map, Result, MatchResult}
+use Rattle.std.specs.Prelude.{ℕ, ◌≡◌, ◌≢◌, Bool, true, false, ◌||◌, is_some, [], codes, slice_get, IsUtf8, Option, Some, None, option_map, Result, MatchResult, IfOk}
 use Rattle.std.specs.declared.io.Error.{Error}
 use Rattle.bib_spec.specs.Text.{Text}
 use Rattle.bib_words.specs.declared.commands.Command.{Command}
@@ -12,7 +12,7 @@ use Rattle.bibkeep.specs.declared.opening.Opened.{Opened}
 use Rattle.bibkeep.specs.declared.merging.Three.{Three}
 use Rattle.bibkeep.specs.declared.other_files.FileFault.{FileFault}
 use Rattle.bibkeep.specs.Causes.{IsErrorStatus, fault_status}
-use Rattle.bibkeep.specs.Opening.{StoresJournal, told_by}
+use Rattle.bibkeep.specs.Opening.{StoresJournal, IsOpenedFor, told_by}
 use Rattle.bibkeep.specs.Together.{EndsTogether, EndsBetween}
 use Rattle.bibkeep.specs.Merging.{RanMerge}
 use Rattle.bib_files.specs.Folders.{Files, Told}
@@ -66,7 +66,7 @@ pub data EndsOpened (command : Command) (opened : Opened) (status : ℕ) : Type 
 
 -- how a command ends over a file that was opened, or could not be opened
 abbrev pub EndsWith : Command → Result Opened Error → ℕ → Type 0
-EndsWith command opened status = MatchResult opened (λ file. EndsOpened command file status) (λ error. IsErrorStatus error status)
+EndsWith command opened status = MatchResult opened (λ file. EndsOpened command file status) (λ error. IsErrorStatus error 3 status)
 
 -- the three files were merged, and the merge finished with this status; their folder tells nothing
 abbrev pub EndsMerged : Command → Three → ℕ → Type 0
@@ -95,7 +95,7 @@ pub data EndsFor (command : Command) (status : ℕ) : Type 0 where
   -- another command without a word: over standard input, which tells nothing
   typed : IsOverFile command → command.words ≡ [] → RanAlone command None status → EndsFor command status
   -- another command: over its file, if it could be opened
-  opened : IsOverFile command → (opened : Result Opened Error) → EndsWith command opened status → EndsFor command status
+  opened : IsOverFile command → (opened : Result Opened Error) → IfOk opened (IsOpenedFor command) → EndsWith command opened status → EndsFor command status
   no_path : IsOverFile command → (path : Text) → slice_get command.words 0 ≡ Some path → ¬ IsUtf8 path → status ≡ 2 → EndsFor command status
   -- no command of the program
   no_command : ¬ IsCommand command → status ≡ 2 → EndsFor command status

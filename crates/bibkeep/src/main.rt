@@ -2,7 +2,7 @@
 //! which files a command reads. `bib_command` reads the words; `bib_run`, `shelf_run` and `merge_run` know what a command does.
 #![tactic(auto)]
 
-ghost use Rattle.std.specs.Prelude.{◌≡◌, true, false, List, None, option_map, codes, IfOk, MatchResult};
+ghost use Rattle.std.specs.Prelude.{◌≡◌, true, false, List, map, None, option_map, codes, string_bytes, IfOk, MatchResult};
 ghost use Rattle.std.specs.Option.{option_copied};
 ghost use Rattle.bib_spec.specs.Text.{Text as FileText};
 ghost use Rattle.bib_words.specs.Command.{IsCommand, has_others};
@@ -11,9 +11,10 @@ ghost use Rattle.bib_streams.specs.Heard.{heard_inner, kept_inner};
 ghost use Rattle.bib_run.specs.Runs.{fresh, view_of};
 ghost use Rattle.bibkeep.specs.Causes.{fault_status, aux_status};
 ghost use Rattle.bibkeep.specs.Opening.{told_by};
-ghost use Rattle.bibkeep.specs.Ending.{RanHere, RanAndFinished, RanAlone, HasRun, EndsWith, EndsMerged, IsOverFile, EndsFor};
+ghost use Rattle.bibkeep.specs.Ending.{RanHere, RanAndFinished, RanAlone, HasRun, EndsWith, EndsMerged, MergedAndFinished, IsOverFile, EndsFor};
 ghost use Rattle.bib_shelf.specs.Joined.{AreJoined};
 ghost use Rattle.bibkeep.specs.Citing.{EndsCiting};
+ghost use Rattle.bibkeep.specs.Program.{Ends, EndsForWords};
 ghost use Rattle.bibkeep.specs.Together.{all_names, RanTogether, EndsTogether, RanBetween, EndsBetween};
 
 mod aux_files;
@@ -38,10 +39,10 @@ use endings::{
     end_without_words, errors, output,
 };
 use merging::{Three, merge_files, three_files};
-use opening::{Journal, Opened, expect_room, open};
+use opening::{Journal, Opened, Place, expect_room, open};
 use other_files::{FileFault, all_names, joined_files, two_files};
 use saying::{
-    Ran, Streams, invite, is_closed_by, may_hint, say_hints, say_trouble, say_unstored, say_usage,
+    Ran, Streams, invite, is_closed, may_hint, say_hints, say_trouble, say_unstored, say_usage,
 };
 use shelf_run::{Joined, run_shelf};
 use std::alloc::Global;
@@ -55,8 +56,10 @@ fn main(rt: HostRuntime) -> ExitCode {
     ExitCode::from(answer_words(&rt, rt.alloc()))
 }
 
-/// Does what the words say, and returns the status to end with.
-fn answer_words(rt: &HostRuntime, alloc: Global) -> u8 {
+/// Does what the words of the command line say, and returns the status to end with.
+fn answer_words(rt: &HostRuntime, alloc: Global) -> u8
+    ensures { Ends result }
+{
     let words = match env::args(rt) {
         Ok(words) => words,
         Err(error) => return end_without_words(&mut errors(rt), &error),
@@ -65,11 +68,18 @@ fn answer_words(rt: &HostRuntime, alloc: Global) -> u8 {
         Ok(words) => words,
         Err(error) => return end_without_words(&mut errors(rt), &error.into()),
     };
-    match parse_request(alloc, words.as_slice()) {
+    answer_these(rt, alloc, words.as_slice())
+}
+
+/// Does what these words say, of which the first is the program's own name, and returns the status to end with.
+fn answer_these(rt: &HostRuntime, alloc: Global, words: &[String]) -> u8
+    ensures { EndsForWords (map string_bytes words.now) result }
+{
+    match parse_request(alloc, words) {
         Ok(Request { command, hints }) => answer(rt, alloc, command, may_hint(rt, hints)),
         Err(usage) => {
             let status = end_usage(&mut output(rt, false), &mut errors(rt), &usage);
-            say_usage(rt, alloc, words.as_slice(), status);
+            say_usage(rt, alloc, words, status);
             status
         }
     }
@@ -275,10 +285,7 @@ fn outcome_of_joined(
 {
     let mut out = output(rt, command.is_named(b"lint"));
     let outcome = run_shelf(alloc, command, names, files, &mut out);
-    (
-        outcome,
-        is_closed_by(&out.into_inner().into_inner().error()),
-    )
+    (outcome, is_closed(out))
 }
 
 /// Merges the three files that the command names, and puts the merged file in the place of ours.
@@ -304,18 +311,37 @@ fn answer_three(
     ensures { MatchResult files (λ three. EndsMerged command.now three result) (λ why. result ≡ fault_status why) }
 {
     match files {
-        Ok(files) => merge_three(rt, alloc, command, hints, &files),
+        Ok(files) => merge_three(rt, alloc, command, hints, files),
         Err(fault) => end_unheard(rt, alloc, command, hints, &fault),
     }
 }
 
 /// Merges these three files, and puts the merged file in the place of ours.
-fn merge_three(rt: &HostRuntime, alloc: Global, command: &Command, hints: bool, files: &Three) -> u8
-    ensures { EndsMerged command.now files.now result }
+fn merge_three(rt: &HostRuntime, alloc: Global, command: &Command, hints: bool, files: Three) -> u8
+    ensures { EndsMerged command.now files result }
+{
+    let base = files.base.into_vec();
+    let ours = files.ours.into_vec();
+    let theirs = files.theirs.into_vec();
+    merge_at(rt, alloc, command, hints, &files.place, base, ours, theirs)
+}
+
+/// Merges files with these bytes, and puts the merged file in this place.
+fn merge_at(
+    rt: &HostRuntime,
+    alloc: Global,
+    command: &Command,
+    hints: bool,
+    place: &Place,
+    base: Vec<u8>,
+    ours: Vec<u8>,
+    theirs: Vec<u8>,
+) -> u8
+    ensures { MergedAndFinished command.now place.now.paths base.items ours.items theirs.items result None None }
 {
     let mut disk = Disk {
         rt,
-        file: &files.place.file,
+        file: &place.file,
         first: None,
     };
     merge_files(
@@ -324,10 +350,10 @@ fn merge_three(rt: &HostRuntime, alloc: Global, command: &Command, hints: bool, 
         command,
         hints,
         &mut disk,
-        files.place.paths.as_ref(),
-        files.base.as_slice(),
-        files.ours.as_slice(),
-        files.theirs.as_slice(),
+        place.paths.as_ref(),
+        base,
+        ours,
+        theirs,
     )
 }
 
@@ -380,10 +406,7 @@ fn outcome_of_sources(
 {
     let mut out = output(rt, false);
     let outcome = run_read(alloc, command, sources, &mut out);
-    (
-        outcome,
-        is_closed_by(&out.into_inner().into_inner().error()),
-    )
+    (outcome, is_closed(out))
 }
 
 /// Runs the command over a source that has no journal and no place for a new file.
@@ -458,7 +481,7 @@ fn run_in<D: Folder>(
             let damaged = Some(b"".as_slice());
             run_stored(rt, alloc, command, hints, folder, paths, file, damaged)
         }
-        Journal::Missing => {
+        Journal::Unread | Journal::Missing => {
             let none = None::<&File>;
             run_stored(rt, alloc, command, hints, folder, paths, file, none)
         }

@@ -75,11 +75,11 @@ pub fn merge_files<D: Folder>(
     hints: bool,
     folder: &mut D,
     paths: Option<&Paths>,
-    base: &[u8],
-    ours: &[u8],
-    theirs: &[u8],
+    base: Vec<u8>,
+    ours: Vec<u8>,
+    theirs: Vec<u8>,
 ) -> u8
-    ensures { MergedAndFinished command.now (option_copied paths.entry) base.now ours.now theirs.now result (D.files folder.old) (D.files folder.new) }
+    ensures { MergedAndFinished command.now (option_copied paths.entry) base.items ours.items theirs.items result (D.files folder.old) (D.files folder.new) }
 {
     let (outcome, is_closed) = outcome_of_merge(rt, alloc, command, base, ours, theirs);
     let finished = finish(folder, &mut errors(rt), paths, &outcome, is_closed);
@@ -93,11 +93,11 @@ fn outcome_of_merge(
     rt: &HostRuntime,
     alloc: Global,
     command: &Command,
-    base: &[u8],
-    ours: &[u8],
-    theirs: &[u8],
+    base: Vec<u8>,
+    ours: Vec<u8>,
+    theirs: Vec<u8>,
 ) -> (Outcome, bool)
-    ensures { RanMerge command.now base.now ours.now theirs.now result.0 }
+    ensures { RanMerge command.now base.items ours.items theirs.items result.0 }
 {
     let mut out = output(rt, !command.print);
     let outcome = run_merge(alloc, command, base, ours, theirs, &mut out);

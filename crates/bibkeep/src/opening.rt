@@ -1,8 +1,10 @@
 //! Opens what a command reads: its file, which is locked if the command stores it, and the journal beside it.
 
-ghost use Rattle.std.specs.Prelude.{◌≡◌, ◌≢◌, ◌↔◌, Some, IfOk, OnErr, IsSome, IsTrue, pos, slice_get};
+ghost use Rattle.std.specs.Prelude.{◌≡◌, ◌≢◌, ◌↔◌, Some, IfOk, IfSome, OnErr, IsSome, IsTrue, option_map, pos, slice_get};
 ghost use Rattle.std.specs.Fd.{file_raw_fd};
-ghost use Rattle.bib_words.specs.Command.{TakesInput};
+ghost use Rattle.std.specs.Path.{path_buf_bytes};
+ghost use Rattle.bib_words.specs.Command.{ReadsJournal, TakesInput};
+ghost use Rattle.bib_files.specs.Storing.{paths_for};
 ghost use Rattle.bibkeep.specs.Opening.{Stores, StoresJournal};
 
 use crate::disk::{found, is_same, kind_of};
@@ -12,6 +14,7 @@ use std::alloc::Global;
 use std::fs::File;
 use std::io::ErrorKind;
 use std::os::fd::AsRawFd;
+use std::path::PathBuf;
 use std::{fs, io};
 
 /// A file is opened so often at most, if other runs go on to replace it between opening and locking.
@@ -20,7 +23,9 @@ const ATTEMPT_LIMIT: u32 = 100_000;
 /// The journal of a file, as it was found.
 #[derive(Drop)]
 pub enum Journal {
-    /// There is none, or the command does not read it.
+    /// It was not looked for: the command does not read it, or the file has no path.
+    Unread,
+    /// There is none.
     Missing,
     /// A file.
     Found(File),
@@ -55,6 +60,8 @@ fn stores(command: &Command) -> bool
 pub fn open(rt: &HostRuntime, alloc: Global, command: &Command, path: &str) -> io::Result<Opened>
     requires { slice_get command.now.words 0 ≡ Some path.now }
     ensures apart { TakesInput command.now → IfOk result (λ opened. file_raw_fd opened.file ≢ pos 0) }
+    ensures unread { ¬ ReadsJournal command.now → IfOk result (λ opened. opened.journal ≡ Journal.Unread) }
+    ensures looked { ReadsJournal command.now → IfOk result (λ opened. IsSome opened.paths → opened.journal ≢ Journal.Unread) }
 {
     let stores = stores(command);
     let paths = if stores || command.reads_journal() {
@@ -74,10 +81,7 @@ pub fn open(rt: &HostRuntime, alloc: Global, command: &Command, path: &str) -> i
     if command.takes_input() && file.as_raw_fd() == rt.stdin().as_raw_fd() {
         return Err(ErrorKind::InvalidInput.into());
     }
-    let journal = match &paths {
-        Some(paths) if command.reads_journal() => open_journal(rt, paths.journal())?,
-        _ => Journal::Missing,
-    };
+    let journal = journal_beside(rt, command, &paths)?;
     Ok(Opened {
         file,
         journal,
@@ -103,7 +107,14 @@ pub fn open_place(rt: &HostRuntime, alloc: Global, path: &str, stores: bool) -> 
 /// The paths at which the file and its journal are stored. If the path is a symbolic link, they are those of the file that
 /// it leads to. A pipe has none.
 fn paths_of(rt: &HostRuntime, alloc: Global, path: &str) -> io::Result<Option<Paths>> {
-    match found(fs::canonicalize(rt, path))? {
+    paths_at(alloc, found(fs::canonicalize(rt, path))?)
+}
+
+/// The paths at which the file at this path and its journal are stored, if there is one.
+fn paths_at(alloc: Global, path: Option<PathBuf>) -> io::Result<Option<Paths>>
+    ensures { IfOk result (λ paths. paths ≡ option_map (λ p. paths_for (path_buf_bytes p)) path) }
+{
+    match path {
         Some(path) => Ok(Some(Paths::of(alloc, path.into_string().as_str())?)),
         None => Ok(None),
     }
@@ -123,9 +134,22 @@ fn open_locked(rt: &HostRuntime, path: &str) -> io::Result<File> {
     Err(ErrorKind::ResourceBusy.into())
 }
 
+/// The journal beside the file, if it has a path and the command reads its journal.
+fn journal_beside(rt: &HostRuntime, command: &Command, paths: &Option<Paths>) -> io::Result<Journal>
+    ensures unread { ¬ ReadsJournal command.now → IfOk result (λ journal. journal ≡ Journal.Unread) }
+    ensures looked { ReadsJournal command.now → IfOk result (λ journal. IsSome paths.now → journal ≢ Journal.Unread) }
+{
+    match paths {
+        Some(paths) if command.reads_journal() => open_journal(rt, paths.journal()),
+        _ => Ok(Journal::Unread),
+    }
+}
+
 /// Opens the journal. A link is not followed, and anything but a file fails. The journal is looked for again if another
 /// run has put a new one in its place between looking and opening.
-fn open_journal(rt: &HostRuntime, path: &str) -> io::Result<Journal> {
+fn open_journal(rt: &HostRuntime, path: &str) -> io::Result<Journal>
+    ensures { IfOk result (λ journal. journal ≢ Journal.Unread) }
+{
     for _ in 0..ATTEMPT_LIMIT {
         let Some(looked) = found(fs::symlink_metadata(rt, path))? else {
             return Ok(Journal::Missing);

@@ -1,17 +1,17 @@
 //! What the program says below its messages.
 
-use crate::endings::errors;
+use crate::endings::{end, errors};
 use bib_answers::Outcome;
 use bib_hints::{
     Asked, Ended, Trouble, hints, hints_of_storing, hints_of_trouble, hints_of_usage, invitation,
 };
-use bib_run::write_whole;
+use bib_run::Tap;
 use bib_streams::{Heard, Kept, Shown};
 use bib_text::Text;
 use bib_words::{Command, status};
 use std::alloc::{AllocError, Global};
 use std::io;
-use std::io::{ErrorKind, IsTerminal};
+use std::io::{ErrorKind, IsTerminal, Stdout};
 
 /// How a run ended, and what its streams tell.
 #[derive(Drop)]
@@ -32,15 +32,14 @@ pub struct Streams {
 
 impl Streams {
     /// What the file, standard input and standard output of a run tell.
-    pub fn of<F, I, W>(
+    pub fn of<F, I>(
         file: Kept<Heard<F>>,
         input: Kept<Heard<I>>,
-        output: Shown<Heard<W>>,
+        output: Shown<Heard<Stdout>>,
     ) -> Streams
     where
         F: Drop,
         I: Drop,
-        W: Drop,
     {
         let (file, file_bytes) = file.into_parts();
         let (input, input_bytes) = input.into_parts();
@@ -80,6 +79,11 @@ impl Streams {
             None => None,
         }
     }
+}
+
+/// Whether the reader of standard output was gone before its end.
+pub fn is_closed(output: Tap<Shown<Heard<Stdout>>>) -> bool {
+    is_closed_by(&output.into_inner().into_inner().error())
 }
 
 /// Whether the last call on the output that failed says that its reader was gone before its end.
@@ -205,6 +209,6 @@ fn asks_for_hints(words: &[String]) -> bool {
 /// Prints hints on standard error, if there was memory for them.
 fn say(rt: &HostRuntime, hints: Result<Text, AllocError>) {
     if let Ok(text) = hints {
-        let _told = write_whole(&mut errors(rt), text.as_slice());
+        let _status = end(&mut errors(rt), text.as_slice(), status::DONE);
     }
 }

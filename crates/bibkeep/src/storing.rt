@@ -3,10 +3,11 @@
 ghost use Rattle.std.specs.Prelude.{◌≡◌, is_some};
 ghost use Rattle.std.specs.Option.{option_copied};
 ghost use Rattle.bibkeep.specs.Ending.{IsFinished, leaves_some};
+ghost use Rattle.bibkeep.specs.Telling.{text_in, is_at_fault, TellsEnd};
 
-use crate::endings::{end, end_run};
+use crate::endings::{Messages, end, end_run};
 use bib_files::{Folder, Paths, store};
-use bib_run::{Outcome, Tap, WRITE_FAULT};
+use bib_run::{Outcome, WRITE_FAULT};
 use bib_text::Text;
 use bib_words::status;
 use std::io;
@@ -24,12 +25,13 @@ pub struct Finished {
 /// `is_closed`, the reader of the output was gone before its end.
 pub fn finish<D: Folder, E: Write>(
     folder: &mut D,
-    errors: &mut Tap<E>,
+    errors: &mut Messages<E>,
     paths: Option<&Paths>,
     outcome: &Outcome,
     is_closed: bool,
 ) -> Finished
-    ensures { IsFinished (option_copied paths.entry) outcome.now result.status (D.files folder.old) (D.files folder.new) }
+    ensures finished { IsFinished (option_copied paths.entry) outcome.now result.status (D.files folder.old) (D.files folder.new) }
+    ensures told { TellsEnd outcome.now is_closed result.status (text_in E.contents errors.old) (text_in E.contents errors.new) (is_at_fault errors.new) }
 {
     let status = end_run(errors, outcome, is_closed);
     if !leaves_some(outcome) {

@@ -5,3 +5,4 @@ mod OrderLemmas
 mod LetterLemmas
 mod NameLemmas
 pub mod LabelFields
+pub mod RunLemmas

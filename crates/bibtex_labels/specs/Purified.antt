@@ -24,6 +24,10 @@ is_separator byte = is_space byte || byte == 126 || byte == 45
 abbrev pub purified_byte : ℕ → Text
 purified_byte byte = if is_separator byte then space ∷ [] else if is_alphanumeric byte then byte ∷ [] else []
 
+-- a byte that stays as it is: a letter, a digit or a space
+abbrev pub stays : ℕ → Bool
+stays byte = is_alphanumeric byte || byte == space
+
 -- the commands that print two foreign letters (bibtex 339)
 abbrev pub two_letters : List Text
 two_letters = codes "oe" ∷ codes "OE" ∷ codes "ae" ∷ codes "AE" ∷ codes "ss" ∷ []

@@ -5,7 +5,7 @@ ghost use Rattle.std.specs.List.{flat_map, list_any, prefix_len};
 ghost use Rattle.std.specs.Str.{bytes_eq};
 ghost use Rattle.bib_spec.specs.Text.{folded};
 ghost use Rattle.bibtex_labels.specs.Pieces.{backslash, pieces};
-ghost use Rattle.bibtex_labels.specs.Purified.{is_letter, is_alphanumeric, is_separator, purified_byte, two_letters, one_letter, foreign_letters, purified_command, between_backslashes, purified_piece, purified, sortified};
+ghost use Rattle.bibtex_labels.specs.Purified.{is_letter, is_alphanumeric, is_separator, purified_byte, stays, two_letters, one_letter, foreign_letters, purified_command, between_backslashes, purified_piece, purified, sortified};
 
 use crate::kept::first_bytes;
 use crate::pieces::Pieces;
@@ -45,12 +45,44 @@ fn push_byte(out: &mut Vec<u8>, byte: u8) -> Result<(), AllocError>
     Ok(())
 }
 
+/// Whether the byte stays as it is: a letter, a digit or a space.
+fn stays(byte: u8) -> bool
+    ensures { result ≡ stays byte }
+{
+    is_alphanumeric(byte) || byte == b' '
+}
+
+/// How many bytes at the front stay as they are.
+fn run_len(text: &[u8]) -> usize
+    ensures len { result ≡ prefix_len stays text.now }
+    ensures within { result ≤ length text.now }
+{
+    text.iter().take_while(|b| stays(**b)).count()
+}
+
+/// Adds the bytes at the front that stay as they are, and what is left of the byte after them. The bytes after that are left to do.
+fn push_run<'a>(out: &mut Vec<u8>, bytes: &'a [u8]) -> Result<&'a [u8], AllocError>
+    requires { 0 < length bytes.now }
+    ensures rest { IfOk result (λ rest. out.new.items ++ flat_map purified_byte rest.now ≡ out.old.items ++ flat_map purified_byte bytes.now) }
+    ensures fewer { IfOk result (λ rest. length rest.now < length bytes.now) }
+{
+    let (run, after) = bytes.split_at(run_len(bytes));
+    out.extend_from_slice(run)?;
+    let Some((byte, rest)) = after.split_first() else {
+        return Ok(after);
+    };
+    push_byte(out, *byte)?;
+    Ok(rest)
+}
+
 /// Adds what is left of bytes outside of special characters.
 fn push_bytes(out: &mut Vec<u8>, bytes: &[u8]) -> Result<(), AllocError>
     ensures { OnOk result (out.new.items ≡ out.old.items ++ flat_map purified_byte bytes.now) }
 {
-    'bytes: for byte in bytes {
-        push_byte(out, *byte)?;
+    // most bytes are copied, run by run
+    let mut rest = bytes;
+    'bytes: while !rest.is_empty() {
+        rest = push_run(out, rest)?;
     }
     Ok(())
 }

@@ -13,6 +13,9 @@ use bib_text::{Seq, Text};
 use std::alloc::{AllocError, Global};
 use std::marker::Model;
 
+/// Room for the print of most names, in bytes, so that few prints take memory twice.
+const ROOM: usize = 64;
+
 /// What has been printed, and whether the last count of characters stopped inside braces.
 #[derive(Drop)]
 pub(crate) struct Print {
@@ -215,8 +218,10 @@ impl Print {
     fn of(alloc: Global, text: &[u8], is_open: bool) -> Result<Print, AllocError>
         ensures { IfOk result (λ print. print ≡ record { text = text.now; is_open = is_open }) }
     {
+        let mut copy = Vec::with_capacity(alloc, ROOM)?;
+        copy.extend_from_slice(text)?;
         Ok(Print {
-            text: text.to_vec(alloc)?,
+            text: copy,
             is_open,
         })
     }

@@ -14,3 +14,4 @@ pub mod ListedEntries
 pub mod ListedRecords
 pub mod UnknownKeys
 pub mod Reading
+pub mod EachPlace

@@ -1,9 +1,9 @@
 -- Lists as the code gives them.
-use Rattle.std.specs.Prelude.{ℕ, ◌≡◌, Bool, not, ◌&&◌, nat_lt, List, Option, None, length, if◌then◌else◌, filter, filter_map, map, option_map, slice_get}
+use Rattle.std.specs.Prelude.{codes, ℕ, ◌≡◌, Bool, not, ◌&&◌, nat_lt, List, [], ◌∷◌, Option, None, length, if◌then◌else◌, filter, filter_map, map, option_map, slice_get}
 use Rattle.std.specs.List.{list_any, enumerate_from, AllZip}
 use Rattle.std.specs.Option.{option_copied}
 use Rattle.bib_spec.specs.Text.{Text, folded}
-use Rattle.bib_spec.specs.Records.{EntryTexts, crossref_text, own_fields, with_inherited}
+use Rattle.bib_spec.specs.Records.{EntryTexts, keys_of, crossref_text, own_fields, with_inherited}
 use Rattle.bibtex_spec.specs.Places.{Place, is_star, are_all_cited, places_of}
 use Rattle.bibtex_spec.specs.Listed.{is_missing, parent_place, up, is_enough, is_shown, shown_crossref, givers, ListedRecord}
 use Rattle.bibtex_places.specs.declared.lists.EntryKey.{EntryKey}
@@ -72,6 +72,17 @@ abbrev pub is_too_deep : List EntryTexts → List Text → ℕ → Bool
 is_too_deep entries keys least =
     let places : List Place = places_of entries keys in
     list_any (is_deep_at entries keys least places) (enumerate_from 0 places)
+
+-- ---- `*` alone
+
+-- the list of keys that is `*` alone
+abbrev pub star_alone : List Text
+star_alone = codes "*" ∷ []
+
+-- the places are those for the keys, and each entry has one: their keys are those of the entries
+pub record ArePlacesOfEach (entries : List EntryTexts) (keys : List Text) (places : List Place) : Type 0 where
+  pub are : places ≡ places_of entries keys
+  pub spelled : map (λ place. place.spelled) places ≡ keys_of entries
 
 -- ---- unknown keys
 

@@ -1,5 +1,5 @@
 -- One step of reading keys and entries.
-use Rattle.std.specs.Prelude.{ℕ, ◌≤◌, ◌||◌, List, [], ◌∷◌, ◌++◌, Option, Some, None, is_none, unwrap_or, if◌then◌else◌, find, option_and_then}
+use Rattle.std.specs.Prelude.{ℕ, ◌≤◌, false, ◌||◌, List, [], ◌∷◌, ◌++◌, Option, Some, None, is_none, unwrap_or, if◌then◌else◌, find, option_and_then}
 use Rattle.std.specs.List.{list_any, AllByRecursion}
 use Rattle.bib_spec.specs.Text.{Text, same}
 use Rattle.bibtex_spec.specs.Places.{is_star, Place}
@@ -24,3 +24,7 @@ awaiting key places = option_and_then (if_empty places) (place_with key places)
 -- no place is named by more entries than this
 abbrev pub CountsAtMost : ℕ → List Place → Type 0
 CountsAtMost n places = AllByRecursion (λ place. place.count ≤ n) places
+
+-- the place of a key that only `*` cites, with its entry n
+abbrev pub place_of : Text → ℕ → Place
+place_of key n = record { spelled = key; entry = Some n; count = 0; is_cited = false }

@@ -94,7 +94,7 @@ impl Model for KeyTable {
 }
 
 impl KeyTable {
-    ghost use Rattle.std.specs.Prelude.{◌≡◌, List, [], ◌∷◌, ◌++◌, length, IfOk, OnOk};
+    ghost use Rattle.std.specs.Prelude.{◌≡◌, List, [], ◌∷◌, ◌++◌, length, is_none, IfOk, OnOk};
     ghost use Rattle.bib_spec.specs.Text.{Text as Bytes, folded};
     ghost use Rattle.bibtex_places.specs.KeyTables.{number_of, FindsKeys, IsNumbered};
 
@@ -134,14 +134,16 @@ impl KeyTable {
         Ok(former)
     }
 
-    /// Adds the key after all others, of which there are `n`. It gets a number only if none of them is the same.
-    pub fn add(&mut self, key: &[u8], n: usize) -> Result<(), AllocError>
-        ensures { OnOk result ((keys : List Bytes) → FindsKeys self.old keys → n ≡ length keys → FindsKeys self.new (keys ++ key.now ∷ [])) }
+    /// Adds the key after all others, of which there are `n`, and says whether none of them is the same: only then it gets a number.
+    pub fn add(&mut self, key: &[u8], n: usize) -> Result<bool, AllocError>
+        ensures keys { OnOk result ((keys : List Bytes) → FindsKeys self.old keys → n ≡ length keys → FindsKeys self.new (keys ++ key.now ∷ [])) }
+        ensures new { IfOk result (λ is_new. is_new ≡ is_none (number_of self.old key.now)) }
     {
         // few keys of a file are repeated, so that most need no look-up
-        if let Some(first) = self.set(key, n)? {
-            self.set(key, first)?;
-        }
-        Ok(())
+        let Some(first) = self.set(key, n)? else {
+            return Ok(true);
+        };
+        self.set(key, first)?;
+        Ok(false)
     }
 }

@@ -1,16 +1,16 @@
 //! The list for some keys.
 
-ghost use Rattle.std.specs.Prelude.{◌≡◌, false, true, List, Some, None, if◌then◌else◌, map, option_map, option_and_then, slice_get, IfOk, IfErr, OnOk};
+ghost use Rattle.std.specs.Prelude.{◌≡◌, false, true, List, Some, None, if◌then◌else◌, map, option_map, option_and_then, slice_get, IfOk, IfErr, IfSome, OnOk};
 ghost use Rattle.std.specs.Option.{option_copied};
 ghost use Rattle.bib_spec.specs.Text.{Text as Bytes};
-ghost use Rattle.bib_spec.specs.Records.{EntryTexts, keys_of};
+ghost use Rattle.bib_spec.specs.Records.{EntryTexts, keys_of, cites_all};
 ghost use Rattle.bibtex_spec.specs.Places.{cited_keys, are_all_cited, places_of, read_entries, read_all};
 ghost use Rattle.bibtex_spec.specs.Listed.{listed_as_bibtex, crossref_spelling, parent_place};
 ghost use Rattle.bibtex_places.specs.KeyTables.{FindsKeys};
 ghost use Rattle.bibtex_places.specs.Seen.{seen};
 ghost use Rattle.bibtex_places.specs.Steps.{CountsAtMost};
 ghost use Rattle.bibtex_places.specs.Parents.{listed_place};
-ghost use Rattle.bibtex_places.specs.Lists.{AreKeysOf, listed_entry, is_deep, entry_at, listed_entries, record_of_listed, is_deep_at, is_too_deep, is_unknown, unknown_places};
+ghost use Rattle.bibtex_places.specs.Lists.{AreKeysOf, listed_entry, is_deep, entry_at, listed_entries, record_of_listed, is_deep_at, is_too_deep, is_unknown, unknown_places, ArePlacesOfEach};
 ghost use Rattle.bibtex_places.specs.Sources.{AreSources};
 ghost use Rattle.bibtex_places.specs.declared.fault.BibtexFault.TheVariants.{TooDeep};
 
@@ -220,7 +220,7 @@ fn unknown_places(alloc: Global, table: &KeyTable, keys: &[Text]) -> Result<Vec<
     Ok(unknown)
 }
 
-/// What `list_as_bibtex` gives. `table` has the keys of all entries.
+/// What `list_as_bibtex` gives. `table` has the keys of all entries, and `places` are those for the keys.
 fn list_of(
     alloc: Global,
     entries: &[EntryKey<'_>],
@@ -228,16 +228,16 @@ fn list_of(
     least: u32,
     table: &KeyTable,
     cited: &Cited,
+    places: &Places,
 ) -> Result<BibtexList, BibtexFault>
     requires { cited.now ≡ cited_keys keys.now }
-    ensures listed { IfOk result (λ list. (texts : List EntryTexts) → AreKeysOf entries.now texts → FindsKeys table.now (keys_of texts) → list.listed ≡ listed_entries texts keys.now least) }
+    ensures listed { IfOk result (λ list. (texts : List EntryTexts) → AreKeysOf entries.now texts → FindsKeys table.now (keys_of texts) → places.now ≡ places_of texts keys.now → list.listed ≡ listed_entries texts keys.now least) }
     ensures unknown { IfOk result (λ list. (texts : List EntryTexts) → AreKeysOf entries.now texts → FindsKeys table.now (keys_of texts) → list.unknown ≡ unknown_places texts keys.now) }
-    ensures short { OnOk result ((texts : List EntryTexts) → AreKeysOf entries.now texts → FindsKeys table.now (keys_of texts) → is_too_deep texts keys.now least ≡ false) }
-    ensures deep { IfErr result (λ fault. fault ≡ TooDeep → (texts : List EntryTexts) → AreKeysOf entries.now texts → FindsKeys table.now (keys_of texts) → is_too_deep texts keys.now least ≡ true) }
+    ensures short { OnOk result ((texts : List EntryTexts) → AreKeysOf entries.now texts → FindsKeys table.now (keys_of texts) → places.now ≡ places_of texts keys.now → is_too_deep texts keys.now least ≡ false) }
+    ensures deep { IfErr result (λ fault. fault ≡ TooDeep → (texts : List EntryTexts) → AreKeysOf entries.now texts → FindsKeys table.now (keys_of texts) → places.now ≡ places_of texts keys.now → is_too_deep texts keys.now least ≡ true) }
 {
     let all = are_all_cited(keys);
-    let places = places_of(alloc, entries, keys, cited)?;
-    let parents = parents_of(alloc, table, entries, all, cited, &places)?;
+    let parents = parents_of(alloc, table, entries, all, cited, places)?;
     let unknown = unknown_places(alloc, table, keys)?;
     let sources = Sources {
         alloc,
@@ -257,6 +257,75 @@ fn list_of(
     }
 }
 
+/// Whether the list is `*` alone.
+fn is_star_alone(keys: &[Text]) -> bool
+    ensures { result ≡ cites_all keys.now }
+{
+    match keys {
+        [key] => is_star(key.as_slice()),
+        _ => false,
+    }
+}
+
+/// The places for a list of keys, if it is `*` alone and no two entries have one key.
+fn each_place(
+    alloc: Global,
+    entries: &[EntryKey<'_>],
+    keys: &[Text],
+) -> Result<Option<Places>, AllocError>
+    ensures { IfOk result (λ some. IfSome some (λ places. (texts : List EntryTexts) → AreKeysOf entries.now texts → ArePlacesOfEach texts keys.now places)) }
+{
+    if !is_star_alone(keys) {
+        return Ok(None);
+    }
+    let places = Places::of_each(alloc, entries)?;
+    Ok(places)
+}
+
+/// What `list_as_bibtex` gives if each entry has its own place. Those places find the keys of all entries, too.
+fn list_of_each(
+    alloc: Global,
+    entries: &[EntryKey<'_>],
+    keys: &[Text],
+    least: u32,
+    cited: &Cited,
+    places: &Places,
+) -> Result<BibtexList, BibtexFault>
+    requires cited { cited.now ≡ cited_keys keys.now }
+    requires each { (texts : List EntryTexts) → AreKeysOf entries.now texts → ArePlacesOfEach texts keys.now places.now }
+    ensures listed { IfOk result (λ list. (texts : List EntryTexts) → AreKeysOf entries.now texts → list.listed ≡ listed_entries texts keys.now least) }
+    ensures unknown { IfOk result (λ list. (texts : List EntryTexts) → AreKeysOf entries.now texts → list.unknown ≡ unknown_places texts keys.now) }
+    ensures short { OnOk result ((texts : List EntryTexts) → AreKeysOf entries.now texts → is_too_deep texts keys.now least ≡ false) }
+    ensures deep { IfErr result (λ fault. fault ≡ TooDeep → (texts : List EntryTexts) → AreKeysOf entries.now texts → is_too_deep texts keys.now least ≡ true) }
+{
+    match list_of(alloc, entries, keys, least, places.table(), cited, places) {
+        Ok(list) => Ok(list),
+        Err(fault) => Err(fault),
+    }
+}
+
+/// What `list_as_bibtex` gives, whichever keys the entries have.
+fn list_of_any(
+    alloc: Global,
+    entries: &[EntryKey<'_>],
+    keys: &[Text],
+    least: u32,
+    cited: &Cited,
+) -> Result<BibtexList, BibtexFault>
+    requires { cited.now ≡ cited_keys keys.now }
+    ensures listed { IfOk result (λ list. (texts : List EntryTexts) → AreKeysOf entries.now texts → list.listed ≡ listed_entries texts keys.now least) }
+    ensures unknown { IfOk result (λ list. (texts : List EntryTexts) → AreKeysOf entries.now texts → list.unknown ≡ unknown_places texts keys.now) }
+    ensures short { OnOk result ((texts : List EntryTexts) → AreKeysOf entries.now texts → is_too_deep texts keys.now least ≡ false) }
+    ensures deep { IfErr result (λ fault. fault ≡ TooDeep → (texts : List EntryTexts) → AreKeysOf entries.now texts → is_too_deep texts keys.now least ≡ true) }
+{
+    let table = table_of(alloc, entries)?;
+    let places = places_of(alloc, entries, keys, cited)?;
+    match list_of(alloc, entries, keys, least, &table, cited, &places) {
+        Ok(list) => Ok(list),
+        Err(fault) => Err(fault),
+    }
+}
+
 /// What `list_as_bibtex` gives.
 fn make_list(
     alloc: Global,
@@ -269,12 +338,11 @@ fn make_list(
     ensures short { OnOk result ((texts : List EntryTexts) → AreKeysOf entries.now texts → is_too_deep texts keys.now least ≡ false) }
     ensures deep { IfErr result (λ fault. fault ≡ TooDeep → (texts : List EntryTexts) → AreKeysOf entries.now texts → is_too_deep texts keys.now least ≡ true) }
 {
-    let table = table_of(alloc, entries)?;
     let cited = Cited::of(alloc, keys)?;
-    match list_of(alloc, entries, keys, least, &table, &cited) {
-        Ok(list) => Ok(list),
-        Err(fault) => Err(fault),
+    if let Some(places) = each_place(alloc, entries, keys)? {
+        return list_of_each(alloc, entries, keys, least, &cited, &places);
     }
+    list_of_any(alloc, entries, keys, least, &cited)
 }
 
 /// The list that BibTeX 0.99d gives to a style for these keys, and the places of those keys that no entry has. `entries` has the

@@ -1,9 +1,10 @@
 //! Places of keys.
 
-ghost use Rattle.std.specs.Prelude.{◌≡◌, ◌+◌, ◌<◌, ◌^◌, OnOk};
+ghost use Rattle.std.specs.Prelude.{◌≡◌, ◌+◌, ◌<◌, ◌^◌, IfOk, OnOk};
 ghost use Rattle.bib_spec.specs.Records.{EntryTexts};
 ghost use Rattle.bibtex_spec.specs.Places.{held_by, named_again};
 ghost use Rattle.bibtex_places.specs.Seen.{seen};
+ghost use Rattle.bibtex_places.specs.Steps.{place_of};
 
 use bib_text::{Text, copied};
 use std::alloc::{AllocError, Global};
@@ -16,6 +17,18 @@ pub(crate) struct Place {
     pub entry: Option<usize>,
     pub count: usize,
     pub is_cited: bool,
+}
+
+/// The place of a key that only `*` cites, with its entry `n`.
+pub(crate) fn added(alloc: Global, key: &[u8], n: usize) -> Result<Place, AllocError>
+    ensures { IfOk result (λ place. seen place ≡ place_of key.now n) }
+{
+    Ok(Place {
+        spelled: copied(alloc, key)?,
+        entry: Some(n),
+        count: 0,
+        is_cited: false,
+    })
 }
 
 /// Takes entry `n` for the place of its key.

@@ -2,7 +2,9 @@
 
 use crate::citing::Cited;
 use crate::key_table::KeyTable;
-use crate::place::{Place, hold, name_again};
+use crate::lists::EntryKey;
+use crate::parents::given_at;
+use crate::place::{Place, added, hold, name_again};
 use bib_text::{Text, copied};
 use std::alloc::{AllocError, Global};
 use std::marker::Model;
@@ -30,11 +32,14 @@ impl Model for Places {
 
 impl Places {
     ghost use Rattle.std.specs.Prelude.{◌≡◌, ◌+◌, ◌<◌, ◌^◌, List, [], ◌∷◌, ◌++◌, Some, None, map, IfOk};
+    ghost use Rattle.std.specs.Option.{IfSome};
     ghost use Rattle.std.specs.Option.{option_copied};
     ghost use Rattle.bib_spec.specs.Records.{EntryTexts, crossref_text};
     ghost use Rattle.bibtex_spec.specs.Places.{cited_place, taken, named, read_entry, read_any};
     ghost use Rattle.bibtex_spec.specs.Listed.{place_with};
     ghost use Rattle.bibtex_places.specs.Seen.{seen};
+    ghost use Rattle.bibtex_places.specs.KeyTables.{FindsKeys};
+    ghost use Rattle.bibtex_places.specs.Lists.{AreKeysOf, star_alone, ArePlacesOfEach};
     ghost use Rattle.bibtex_places.specs.Steps.{awaiting, CountsAtMost};
 
     /// No places. It takes no memory.
@@ -77,6 +82,31 @@ impl Places {
             places = places.with(place)?;
         }
         Ok(places)
+    }
+
+    /// The places where `*` alone is cited, if no two entries have one key: one for each entry.
+    pub fn of_each(alloc: Global, entries: &[EntryKey<'_>]) -> Result<Option<Self>, AllocError>
+        ensures { IfOk result (λ some. IfSome some (λ places. (texts : List EntryTexts) → AreKeysOf entries.now texts → ArePlacesOfEach texts star_alone places)) }
+    {
+        let mut all = Vec::with_capacity(alloc, entries.len())?;
+        let mut table = KeyTable::new(alloc);
+        'each: for n in 0..entries.len() {
+            let Some(entry) = given_at(entries, n) else {
+                return Ok(None);
+            };
+            if !table.add(entry.key, n)? {
+                return Ok(None);
+            }
+            all.push(added(alloc, entry.key, n)?)?;
+        }
+        Ok(Some(Places { alloc, all, table }))
+    }
+
+    /// The table that finds the keys of the places.
+    pub fn table(&self) -> &KeyTable
+        ensures { FindsKeys result.now (map (λ place. place.spelled) self.now) }
+    {
+        &self.table
     }
 
     /// The places.

@@ -38,7 +38,7 @@ piece_begins from text p r b = record {
   whole = b.whole ∙ piece_text-is p r;
 }
 
-same_piece : (p q : Piece) → p.place ≡ q.place → p.old ≡ q.old → p.new ≡ q.new → p ≡ q
+pub same_piece : (p q : Piece) → p.place ≡ q.place → p.old ≡ q.old → p.new ≡ q.new → p ≡ q
 same_piece p q place old new =
     ap (λ (n : ℕ). record { place = n; old = p.old; new = p.new }) place
     ∙ ap (λ (t : Text). record { place = q.place; old = t; new = p.new }) old
@@ -143,7 +143,7 @@ one_wrong_counted text l m a b = one_wrong decimal IsSmall (λ n. AreWrongPieces
 
 -- ---- steps
 
-label_free : (t : Text) → list_all is_label_byte t ≡ true → IsFreeOf line_feed t
+pub label_free : (t : Text) → list_all is_label_byte t ≡ true → IsFreeOf line_feed t
 label_free [] h = tt
 label_free (b ∷ t) h =
     let parts = and_parts (is_label_byte b) (list_all is_label_byte t) h in
@@ -156,11 +156,11 @@ label_forms = record { free = λ d h. label_free d h.plain; one = λ a b h k e. 
 label_begins : (text : Text) (step : Step) (r : Text) → BeginsWithStep Second text step r → BeginsWith {A = Text} (λ label. label) IsLabel text step.label (pieces_text step.pieces ++ r)
 label_begins text step r b = record { good = b.good.label; whole = b.whole ∙ step_text-is step r }
 
-same_step : (a b : Step) → a.label ≡ b.label → a.pieces ≡ b.pieces → a ≡ b
+pub same_step : (a b : Step) → a.label ≡ b.label → a.pieces ≡ b.pieces → a ≡ b
 same_step a b label pieces =
     ap (λ (t : Text). record { label = t; pieces = a.pieces }) label ∙ ap (λ (ps : List Piece). record { label = b.label; pieces = ps }) pieces
 
-one_step : (version : Version) (text : Text) (a b : Step) (r s : Text) → BeginsWithStep version text a r → BeginsWithStep version text b s → (a ≡ b) × (r ≡ s)
+pub one_step : (version : Version) (text : Text) (a b : Step) (r s : Text) → BeginsWithStep version text a r → BeginsWithStep version text b s → (a ≡ b) × (r ≡ s)
 one_step First text a b r s x y =
     let one = one_counted text a.pieces b.pieces r s (record { good = x.good.0.pieces; whole = x.whole }) (record { good = y.good.0.pieces; whole = y.whole }) in
     (same_step a b (x.good.1 ∙ sym y.good.1) one.0, one.1)
@@ -169,7 +169,7 @@ one_step Second text a b r s x y =
     let one = one_counted (pieces_text a.pieces ++ r) a.pieces b.pieces r s (record { good = x.good.pieces; whole = refl }) (record { good = y.good.pieces; whole = lines.1 }) in
     (same_step a b lines.0 one.0, one.1)
 
-no_wrong_step : (version : Version) (text : Text) (step : Step) (r : Text) (left : ℕ) → BeginsWithStep version text step r → IsWrongStep version text left → ⊥
+pub no_wrong_step : (version : Version) (text : Text) (step : Step) (r : Text) (left : ℕ) → BeginsWithStep version text step r → IsWrongStep version text left → ⊥
 no_wrong_step First text step r left b w = no_wrong_counted text step.pieces r left (record { good = b.good.0.pieces; whole = b.whole }) w
 no_wrong_step Second text step r left b w =
     no_wrong_counted (pieces_text step.pieces ++ r) step.pieces r left (record { good = b.good.pieces; whole = refl })

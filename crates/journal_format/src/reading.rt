@@ -23,7 +23,7 @@ pub const JOURNAL_LIMIT: usize = 67_174_486;
 const FIRST_STEP_TEXTS_LIMIT: u64 = 67_108_864;
 
 /// The greatest length of the texts of all steps together in this version, in bytes.
-fn steps_limit(version: Version) -> usize
+pub(crate) fn steps_limit(version: Version) -> usize
     ensures { result ≡ steps_limit version }
 {
     match version {

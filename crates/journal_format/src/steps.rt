@@ -90,7 +90,11 @@ fn split_labelled_step(alloc: Global, text: &[u8]) -> Result<(Step, &[u8]), Stop
 }
 
 /// The first step of a journal of this version, and the text after it; or why reading stops.
-fn split_step(alloc: Global, version: Version, text: &[u8]) -> Result<(Step, &[u8]), Stop>
+pub(crate) fn split_step(
+    alloc: Global,
+    version: Version,
+    text: &[u8],
+) -> Result<(Step, &[u8]), Stop>
     ensures read { IfOk result (λ x. BeginsWithStep version text.now x.0 x.1.now) }
     ensures wrong { IfErr result (StopsWhere (IsWrongStep version text.now)) }
 {

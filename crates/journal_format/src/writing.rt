@@ -5,6 +5,7 @@ ghost use Rattle.history_spec.specs.Steps.{piece_text, pieces_text, step_text};
 ghost use Rattle.std.specs.List.{flat_map};
 ghost use Rattle.journal_format.specs.JournalText.{counts, head_text, journal_text};
 
+use crate::packed_steps::PackedSteps;
 use crate::step::Step;
 use crate::step_text::step_texts_len;
 use bib_data::Piece;
@@ -48,7 +49,7 @@ fn put_pieces(out: &mut Vec<u8>, pieces: &[Piece]) -> Result<(), AllocError>
 }
 
 /// Writes a step: its label in a line, and then its pieces.
-fn put_step(out: &mut Vec<u8>, step: &Step) -> Result<(), AllocError>
+pub(crate) fn put_step(out: &mut Vec<u8>, step: &Step) -> Result<(), AllocError>
     ensures { OnOk result (out.new.items ≡ out.old.items ++ step_text step.now) }
 {
     out.extend_from_slice(step.label.as_slice())?;
@@ -92,15 +93,6 @@ fn put_steps_back(out: &mut Vec<u8>, steps: &[Step]) -> Result<(), AllocError>
     Ok(())
 }
 
-/// The greatest length of a journal with this digest and these steps, in bytes.
-fn most_len(digest: &[u8], steps: &[Step], others: &[Step]) -> usize {
-    let len = step_texts_len(steps)
-        .saturating_add(step_texts_len(others))
-        .saturating_add(digest.len() as u64)
-        .saturating_add(HEAD_LEN);
-    len as usize
-}
-
 /// The journal, in version 2, of a file with this digest, with these past steps from the oldest, and these undone steps,
 /// the next to be redone last. It takes time linear in the length of the text, and one allocation, for the text.
 pub fn write_journal(
@@ -111,7 +103,11 @@ pub fn write_journal(
 ) -> Result<Text, AllocError>
     ensures { IfOk result (λ text. text ≡ journal_text (record { digest = digest.now; past = past.now; future = reverse undone.now })) }
 {
-    let mut out = Vec::with_capacity(alloc, most_len(digest, past, undone))?;
+    let len = step_texts_len(past)
+        .saturating_add(step_texts_len(undone))
+        .saturating_add(digest.len() as u64)
+        .saturating_add(HEAD_LEN);
+    let mut out = Vec::with_capacity(alloc, len as usize)?;
     put_head(&mut out, digest, past.len() as u64, undone.len() as u64)?;
     put_steps(&mut out, past)?;
     put_steps_back(&mut out, undone)?;
@@ -119,14 +115,14 @@ pub fn write_journal(
 }
 
 /// The journal, in version 2, of a file with this digest, once only the first `undos` of these past steps are past, and the others
-/// are the next to be redone, before these future steps. No step moves, since the steps keep their order in the text. It takes time
-/// linear in the length of the text, and one allocation, for the text.
-pub fn write_taken_back(
+/// are the next to be redone, before these future steps. The steps keep their order in the text. It takes time linear in the length
+/// of the text, and memory for the text; if they stay in a text of version 1, also for one step at a time.
+pub fn write_packed(
     alloc: Global,
     digest: &[u8],
     undos: usize,
-    past: &[Step],
-    future: &[Step],
+    past: &PackedSteps<'_>,
+    future: &PackedSteps<'_>,
 ) -> Result<Text, AllocError>
     requires { undos ≤ length past.now }
     ensures { IfOk result (λ text. text ≡ journal_text (record {
@@ -136,9 +132,13 @@ pub fn write_taken_back(
     })) }
 {
     let redos = past.len() - undos + future.len();
-    let mut out = Vec::with_capacity(alloc, most_len(digest, past, future))?;
+    let room = past
+        .room()
+        .saturating_add(future.room())
+        .saturating_add(digest.len());
+    let mut out = Vec::with_capacity(alloc, room.saturating_add(HEAD_LEN as usize))?;
     put_head(&mut out, digest, undos as u64, redos as u64)?;
-    put_steps(&mut out, past)?;
-    put_steps(&mut out, future)?;
+    past.put(alloc, &mut out)?;
+    future.put(alloc, &mut out)?;
     Ok(Seq::from_vec(out))
 }

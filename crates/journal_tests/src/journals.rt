@@ -2,7 +2,7 @@
 
 use bib_data::{Piece, is_label};
 use bib_text::{Seq, Text, copied};
-use journal_format::{Step, digest, read_journal, write_journal, write_taken_back};
+use journal_format::{Step, digest, pack_journal, read_journal, write_journal, write_packed};
 use std::alloc::{AllocError, Global};
 use std::test::Fail;
 
@@ -13,6 +13,10 @@ const REMOVED: &[u8] =
 /// The journal `REMOVED` in version 2, where the step has an empty label.
 const REMOVED_NOW: &[u8] =
     b"bibkeep 2\nba7816bf8f01cfea414140de5dae2223b00361a396177a9cb410ff61f20015ad\n1 0\n\n1\n3 8 0\n@misc{k}\n";
+
+/// The journal `REMOVED_NOW` once its step is taken back.
+const TAKEN_BACK: &[u8] =
+    b"bibkeep 2\nba7816bf8f01cfea414140de5dae2223b00361a396177a9cb410ff61f20015ad\n0 1\n\n1\n3 8 0\n@misc{k}\n";
 
 /// The journal of the file `abc` after two entries were removed from its end in one step with a label.
 const CLEARED: &[u8] =
@@ -70,6 +74,14 @@ fn written_again(alloc: Global, bytes: &[u8]) -> Result<Text, Fail> {
     undone.reverse();
     let past = journal.past.as_slice();
     Ok(write_journal(alloc, journal.digest.as_slice(), past, undone.as_slice())?)
+}
+
+/// The bytes of the journal that is written from these once only the first `undos` of the past steps are past, or all if there
+/// are fewer.
+fn taken_back(alloc: Global, bytes: &[u8], undos: usize) -> Result<Text, Fail> {
+    let journal = pack_journal(alloc, bytes)?;
+    let undos = undos.min(journal.past.len());
+    Ok(write_packed(alloc, journal.digest, undos, &journal.past, &journal.future)?)
 }
 
 #[test]
@@ -154,9 +166,20 @@ fn a_step_that_is_taken_back_stays_where_it_is(rt: HostRuntime) -> Result<(), Fa
     past.push(step(alloc, b"", 0, b"x", b"")?)?;
     past.push(step(alloc, b"l", 1, b"", b"last")?)?;
     let digest = digest(alloc, b"abc")?;
-    let journal = write_taken_back(alloc, digest.as_slice(), 1, past.as_slice(), &[])?;
+    let journal = write_journal(alloc, digest.as_slice(), past.as_slice(), &[])?;
+    let journal = taken_back(alloc, journal.as_slice(), 1)?;
     let steps: &[u8] = b"1 1\n\n1\n0 1 0\nx\nl\n1\n1 0 4\nlast\n";
     assert!(rt; journal.as_slice().ends_with(steps));
+    assert!(rt; taken_back(alloc, journal.as_slice(), 1)?.as_slice() == journal.as_slice());
+    Ok(())
+}
+
+#[test]
+fn a_step_of_version_1_is_taken_back_in_version_2(rt: HostRuntime) -> Result<(), Fail> {
+    let alloc = rt.alloc();
+    assert!(rt; taken_back(alloc, REMOVED, 0)?.as_slice() == TAKEN_BACK);
+    assert!(rt; taken_back(alloc, REMOVED_NOW, 0)?.as_slice() == TAKEN_BACK);
+    assert!(rt; taken_back(alloc, REMOVED, 1)?.as_slice() == REMOVED_NOW);
     Ok(())
 }
 

@@ -7,7 +7,7 @@ ghost use Rattle.merge_run.specs.Answers.{merged_status, merged_answer, fault_li
 
 use crate::lines::told_lines;
 use bib_answers::{Answer, Outcome, outcome_of, refusal_in, refused};
-use bib_merge::{Conflict, KeyConflict, LostUse, MergeFault, Merged, merge};
+use bib_merge::{Conflict, KeyConflict, LostUse, MergeFault, Merged, merge_files};
 use bib_text::{Text, copied};
 use bib_words::status;
 use std::alloc::{AllocError, Global};
@@ -80,19 +80,19 @@ fn merged_answer(alloc: Global, print: bool, merged: Merged) -> Result<Answer, A
 }
 
 /// What `merge` answers to a common file, ours and theirs, which have these names in this order: a line for each conflict, and the
-/// merged file, which is to be stored or with `print` is the output, while the lines are the message. It reads and writes nothing,
-/// and is refused only if memory runs out. (dialect)
+/// merged file, which is to be stored or with `print` is the output, while the lines are the message. It uses the memory of the
+/// files' bytes, reads and writes nothing, and is refused only if memory runs out. (dialect)
 pub fn answer_merge(
     alloc: Global,
     print: bool,
     names: &[Text],
-    base: &[u8],
-    ours: &[u8],
-    theirs: &[u8],
+    base: Vec<u8>,
+    ours: Vec<u8>,
+    theirs: Vec<u8>,
 ) -> Result<Answer, AllocError>
-    ensures { IfOk result (IsMergeAnswer print names.now base.now ours.now theirs.now) }
+    ensures { IfOk result (IsMergeAnswer print names.now base.items ours.items theirs.items) }
 {
-    match merge(alloc, base, ours, theirs) {
+    match merge_files(alloc, base, ours, theirs) {
         Ok(merged) => merged_answer(alloc, print, merged),
         Err(fault) => {
             let line = fault_line(alloc, names, fault)?;

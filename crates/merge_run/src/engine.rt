@@ -17,12 +17,12 @@ use std::io::Write;
 pub fn run_merge<W: Write>(
     alloc: Global,
     command: &Command,
-    base: &[u8],
-    ours: &[u8],
-    theirs: &[u8],
+    base: Vec<u8>,
+    ours: Vec<u8>,
+    theirs: Vec<u8>,
     out: &mut Tap<W>,
 ) -> Outcome
-    ensures { IsMergeRun command.now base.now ours.now theirs.now (view_of W.contents out.old) (view_of W.contents out.new) result }
+    ensures { IsMergeRun command.now base.items ours.items theirs.items (view_of W.contents out.old) (view_of W.contents out.new) result }
 {
     let names = command.words.as_slice();
     match answer_merge(alloc, command.print, names, base, ours, theirs) {

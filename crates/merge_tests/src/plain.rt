@@ -4,7 +4,7 @@ ghost use Rattle.std.specs.Prelude.{◌≡◌, IfOk};
 
 use bib_places::{Side, is_merge, merged_text, plain_places};
 use bib_store::{Database, Paged};
-use bib_units::{FileUnits, units_of};
+use bib_units::{FileUnits, comments_of, units_of};
 use std::alloc::{AllocError, Global};
 use std::test::Fail;
 
@@ -35,12 +35,23 @@ fn has_text(
     text: &[u8],
 ) -> Result<bool, AllocError> {
     let b = opened(alloc, base)?;
-    let of_base = units_of(alloc, &b, base)?;
-    let has = has_text_with_base(alloc, &b, &of_base, ours, theirs, text)?;
-    Ok(has)
+    has_text_over(alloc, &b, ours, theirs, text)
 }
 
 /// The same, of which the common file is open.
+fn has_text_over(
+    alloc: Global,
+    b: &Database<Paged>,
+    ours: &[u8],
+    theirs: &[u8],
+    text: &[u8],
+) -> Result<bool, AllocError> {
+    let comments = comments_of(alloc, b)?;
+    let of_base = units_of(alloc, b, &comments)?;
+    has_text_with_base(alloc, b, &of_base, ours, theirs, text)
+}
+
+/// The same, of which the common file has these units.
 fn has_text_with_base(
     alloc: Global,
     b: &Database<Paged>,
@@ -50,12 +61,24 @@ fn has_text_with_base(
     text: &[u8],
 ) -> Result<bool, AllocError> {
     let o = opened(alloc, ours)?;
-    let of_ours = units_of(alloc, &o, ours)?;
-    let has = has_text_with_ours(alloc, b, of_base, &o, &of_ours, theirs, text)?;
-    Ok(has)
+    has_text_between(alloc, b, of_base, &o, theirs, text)
 }
 
-/// The same, of which the common file and ours are open.
+/// The same, of which ours is open, too.
+fn has_text_between(
+    alloc: Global,
+    b: &Database<Paged>,
+    of_base: &FileUnits<'_>,
+    o: &Database<Paged>,
+    theirs: &[u8],
+    text: &[u8],
+) -> Result<bool, AllocError> {
+    let comments = comments_of(alloc, o)?;
+    let of_ours = units_of(alloc, o, &comments)?;
+    has_text_with_ours(alloc, b, of_base, o, &of_ours, theirs, text)
+}
+
+/// The same, of which ours has these units.
 fn has_text_with_ours(
     alloc: Global,
     b: &Database<Paged>,
@@ -66,12 +89,25 @@ fn has_text_with_ours(
     text: &[u8],
 ) -> Result<bool, AllocError> {
     let t = opened(alloc, theirs)?;
-    let of_theirs = units_of(alloc, &t, theirs)?;
-    let has = is_text(alloc, b, of_base, o, of_ours, &t, &of_theirs, text)?;
-    Ok(has)
+    has_text_of(alloc, b, of_base, o, of_ours, &t, text)
 }
 
 /// The same of open files.
+fn has_text_of(
+    alloc: Global,
+    b: &Database<Paged>,
+    of_base: &FileUnits<'_>,
+    o: &Database<Paged>,
+    of_ours: &FileUnits<'_>,
+    t: &Database<Paged>,
+    text: &[u8],
+) -> Result<bool, AllocError> {
+    let comments = comments_of(alloc, t)?;
+    let of_theirs = units_of(alloc, t, &comments)?;
+    is_text(alloc, b, of_base, o, of_ours, t, &of_theirs, text)
+}
+
+/// The same of open files with these units.
 fn is_text(
     alloc: Global,
     b: &Database<Paged>,

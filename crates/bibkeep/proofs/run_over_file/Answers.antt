@@ -2,6 +2,7 @@ use Rattle.std.proofs.Common.{List, ap, sym, subst, slice_get, ◌∙◌}
 use Rattle.std.specs.Prelude.{IsUtf8}
 use Rattle.bib_spec.specs.Text.{Text}
 use Rattle.bibkeep.specs.Ending.{EndsFor}
+use Rattle.bibkeep.proofs.Openings.{opened_for}
 use Rattle.bibkeep.proofs.run_over_file.Goals as goal
 
 pub returns-in_default-from_utf8 : goal.returns-in_default-from_utf8
@@ -10,4 +11,6 @@ returns-in_default-from_utf8 c =
     (subst (λ (t : Text). ¬ IsUtf8 t) c.as_slice-2.ensures c.in_default-from_utf8.ensures.cases.0) c.end_unknown.ensures.status
 
 pub returns : goal.returns
-returns c = EndsFor.opened c.requires.over c.open-opened.result c.answer_opened.ensures
+returns c =
+    let ensures = c.open-opened.ensures in
+    EndsFor.opened c.requires.over c.open-opened.result (opened_for _ _ ensures.apart ensures.unread ensures.looked) c.answer_opened.ensures

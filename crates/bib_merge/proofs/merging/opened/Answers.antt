@@ -8,5 +8,5 @@ returns-then-is_memory-clause-fault c = IsOpeningFault.no_memory
 
 pub returns-else-is_memory-clause-fault : goal.returns-else-is_memory-clause-fault
 returns-else-is_memory-clause-fault c =
-    subst (IsOpeningFault c.args.file c.args.bytes.now) (sym c.fault_in.ensures)
+    subst (IsOpeningFault c.args.file c.args.bytes.items) (sym c.fault_in.ensures)
     (IsOpeningFault.unopened c.in-Err.fault (λ e. false≢true (sym c.if-is_memory.false ∙ c.is_memory.ensures ∙ ap (λ (n : ℕ). n == 10) e)) c.in-Err.ensures.fault)

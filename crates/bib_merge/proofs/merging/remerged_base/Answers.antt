@@ -1,6 +1,20 @@
+use Rattle.std.proofs.Common.{map, subst}
+use Rattle.std.specs.Prelude.{IfOk, IfErr}
 use Rattle.std.proofs.lemmas.Result.{err_from_is_err_and}
-use Rattle.bib_merge.specs.Merges.{IsOrMemory}
+use Rattle.bib_spec.specs.Text.{Text}
+use Rattle.bib_places.specs.OwnedLabels.{owned_seen}
+use Rattle.bib_places.specs.ConflictsSeen.{conflict_seen}
+use Rattle.bib_merge.specs.declared.told.Told.{Told}
+use Rattle.bib_merge.specs.Merges.{IsMergeOfThree, RefusesMergeOfThree, IsOrMemory}
 use Rattle.bib_merge.proofs.merging.remerged_base.Goals as goal
+
+pub returns-clause-told : goal.returns-clause-told
+returns-clause-told c =
+    subst (λ (f : Text). IfOk c.remerged_ours.result (λ (told : Told). IsMergeOfThree (map owned_seen c.args.given.now) c.args.b f c.args.theirs.items told.text (map conflict_seen told.conflicts.items) told.lost.items told.uses.items))
+    c.in_ok-o.ensures c.remerged_ours.ensures.told
+
+pub returns-clause-fault : goal.returns-clause-fault
+returns-clause-fault c = subst (λ (f : Text). IfErr c.remerged_ours.result (IsOrMemory (RefusesMergeOfThree (map owned_seen c.args.given.now) c.args.b f c.args.theirs.items))) c.in_ok-o.ensures c.remerged_ours.ensures.fault
 
 pub returns-in_err-o-clause-fault : goal.returns-in_err-o-clause-fault
 returns-in_err-o-clause-fault c =

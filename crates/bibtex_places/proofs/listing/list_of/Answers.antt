@@ -16,16 +16,16 @@ returns-in-Ok c =
     (subst (λ (all : List Place). AreParents texts keys all c.in_ok-parents.parents.items) (sym c.as_slice.ensures)
     (c.in_ok-parents.ensures texts keys are finds c.are_all_cited-all.ensures c.requires)) in
     record {
-      listed = λ texts are finds.
+      listed = λ texts are finds placed.
           c.from_vec.ensures
           ∙ c.in-Ok.ensures.listed texts keys
           (record { entries = are; cited = c.requires; parents = parents texts are finds; all = c.are_all_cited-all.ensures })
-          (c.as_slice.ensures ∙ c.in_ok-places.ensures texts are);
+          (c.as_slice.ensures ∙ placed);
       unknown = λ texts are finds. c.from_vec-in-Ok.ensures ∙ c.in_ok-unknown.ensures texts finds;
-      short = λ texts are finds.
+      short = λ texts are finds placed.
           c.in-Ok.ensures.short texts keys
           (record { entries = are; cited = c.requires; parents = parents texts are finds; all = c.are_all_cited-all.ensures })
-          (c.as_slice.ensures ∙ c.in_ok-places.ensures texts are);
+          (c.as_slice.ensures ∙ placed);
       deep = record {};
     }
 
@@ -36,7 +36,7 @@ returns c =
       listed = record {};
       unknown = record {};
       short = record {};
-      deep = λ is texts are finds.
+      deep = λ is texts are finds placed.
           c.in-Err.ensures.deep is texts keys
           (record {
             entries = are;
@@ -46,5 +46,5 @@ returns c =
                 (c.in_ok-parents.ensures texts keys are finds c.are_all_cited-all.ensures c.requires));
             all = c.are_all_cited-all.ensures;
           })
-          (c.as_slice.ensures ∙ c.in_ok-places.ensures texts are);
+          (c.as_slice.ensures ∙ placed);
     }

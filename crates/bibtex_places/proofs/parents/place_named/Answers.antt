@@ -1,4 +1,4 @@
-use Rattle.std.proofs.Common.{◌∙◌, ap, sym, is_some, true, false, List}
+use Rattle.std.proofs.Common.{◌∙◌, ap, sym, is_some, List}
 use Rattle.bibtex_spec.specs.Places.{Place}
 use Rattle.bibtex_spec.specs.Listed.{first_same, within}
 use Rattle.bibtex_places.proofs.Named.{named_some_cited, named_known, named_uncited, named_missing}

@@ -13,7 +13,7 @@ pub keys-preserved : goal.keys-preserved
 keys-preserved c texts are =
     let at : slice_get c.args.entries.now c.keys.n ≡ Some c.in-Some.entry = sym c.given_at.ensures ∙ c.in-Some.is in
     keys_finds c.add.new.self c.args.entries.now texts c.keys.n c.in-Some.entry at are
-    (c.in_ok-add.ensures (take c.keys.n (keys_of texts)) (c.keys.invariant texts are) (keys_before c.args.entries.now texts c.keys.n c.in-Some.entry at are))
+    (c.in_ok-add.ensures.keys (take c.keys.n (keys_of texts)) (c.keys.invariant texts are) (keys_before c.args.entries.now texts c.keys.n c.in-Some.entry at are))
 
 pub returns : goal.returns
 returns c texts are =

@@ -1,4 +1,4 @@
-use Rattle.std.proofs.Common.{◌≡◌, ◌++◌, ◌∷◌, [], ◌∙◌, ap, sym, is_some, true, List}
+use Rattle.std.proofs.Common.{◌≡◌, ◌++◌, ◌∷◌, [], ◌∙◌, ap, sym, is_some, List}
 use Rattle.bib_spec.specs.Text.{Text}
 use Rattle.bibtex_places.specs.Steps.{with_cited}
 use Rattle.bibtex_places.proofs.Keys.{kept_star, kept_found, pushed_new}
